@@ -1,2 +1,4 @@
 pub mod Constants
+pub mod Order
 pub mod Round
+pub mod Bits
