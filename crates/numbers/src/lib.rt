@@ -2,4 +2,5 @@
 // and comparisons, and the vectors and frames made of them. Total on every `f64`.
 pub mod bits;
 pub mod order;
+pub mod root;
 pub mod rounding;
