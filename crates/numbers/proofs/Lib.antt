@@ -1,1 +1,4 @@
 pub mod Reals
+pub mod Equality
+pub mod Signed
+pub mod Monotone

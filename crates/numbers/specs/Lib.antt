@@ -4,4 +4,6 @@ pub mod Round
 pub mod Root
 pub mod Sqrt
 pub mod Nearest
+pub mod Trig
+pub mod Multiples
 pub mod Bits

@@ -4,3 +4,4 @@ pub mod bits;
 pub mod order;
 pub mod root;
 pub mod rounding;
+pub mod trig;
