@@ -1,4 +1,5 @@
 pub mod Reals
 pub mod Equality
+pub mod Position
 pub mod Signed
 pub mod Monotone

@@ -7,3 +7,6 @@ pub mod Nearest
 pub mod Trig
 pub mod Multiples
 pub mod Bits
+pub mod Vectors
+pub mod Frames
+pub mod Position
