@@ -3,3 +3,4 @@ pub mod Equality
 pub mod Position
 pub mod Signed
 pub mod Monotone
+pub mod Magnitude

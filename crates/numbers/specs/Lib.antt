@@ -10,3 +10,4 @@ pub mod Bits
 pub mod Vectors
 pub mod Frames
 pub mod Position
+pub mod Within
