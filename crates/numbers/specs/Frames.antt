@@ -1,5 +1,6 @@
 -- A frame: an origin, an axis z and a reference direction x; y is z cross x.
-use lib.Ieee.{Float, binary64, mul}
+use lib.Ieee.{Float}
+use Rattle.numbers.specs.Rounded.{_⊗_}
 use Rattle.numbers.specs.Trig.{sincosOf}
 use Rattle.numbers.specs.declared.math.Vec3.{Vec3}
 use Rattle.numbers.specs.declared.math.Frame.{Frame}
@@ -21,4 +22,4 @@ yOf f = crossOf (f .axis) (f .reference)
 
 unfoldable pub polarOf : Frame → Float → Float → Vec3
 unfolding sincosOf
-polarOf f r t = plusOf (plusOf (f .origin) (timesOf (f .reference) (mul binary64 r (sincosOf t .cos)))) (timesOf (yOf f) (mul binary64 r (sincosOf t .sin)))
+polarOf f r t = plusOf (plusOf (f .origin) (timesOf (f .reference) (r ⊗ sincosOf t .cos))) (timesOf (yOf f) (r ⊗ sincosOf t .sin))

@@ -1,4 +1,5 @@
 pub mod Constants
+pub mod Rounded
 pub mod Order
 pub mod Round
 pub mod Root

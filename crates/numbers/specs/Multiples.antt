@@ -2,13 +2,14 @@
 use Prim.Native.Nat.{ℕ, zero, suc, _-_, _%_}
 use mathlib.Core.Bool.{Bool, _&&_}
 use lib.IntN.{ℤ, pos, negsuc}
-use lib.Ieee.{Float, binary64, mul, neg, eq, ofInt}
+use lib.Ieee.{Float, binary64, neg, eq, ofInt}
 use Rattle.numbers.specs.declared.trig.SinCos.{SinCos}
+use Rattle.numbers.specs.Rounded.{_⊗_}
 use Rattle.numbers.specs.Constants.{plusZero, one, H}
 
 -- k times H
 abbrev pub multipleOf : ℤ → Float
-multipleOf k = mul binary64 (ofInt binary64 k) H
+multipleOf k = ofInt binary64 k ⊗ H
 
 -- k mod 4, taken from 0 to 3
 abbrev pub quartersOf : ℤ → ℕ

@@ -1,8 +1,9 @@
 -- Vectors of three reals, as in the Rust (`math.rs`): each operation is rounded once, in the order written.
 use mathlib.Core.Bool.{Bool, true, false, _&&_}
-use lib.Ieee.{Float, binary64, add, sub, mul, div, lt}
+use lib.Ieee.{Float, lt}
 use lib.Ieee.Scale.{finite}
 use Rattle.numbers.specs.Constants.{plusZero, one, shortest}
+use Rattle.numbers.specs.Rounded.{_⊕_, _⊖_, _⊗_, _⊘_}
 use Rattle.numbers.specs.Order.{absOf}
 use Rattle.numbers.specs.Sqrt.{sqrtOf}
 use Rattle.numbers.specs.declared.math.Vec3.{Vec3}
@@ -19,20 +20,20 @@ abbrev pub VZ : Vec3
 VZ = record { x = plusZero; y = plusZero; z = one }
 
 abbrev pub plusOf : Vec3 → Vec3 → Vec3
-plusOf a b = record { x = add binary64 (a .x) (b .x); y = add binary64 (a .y) (b .y); z = add binary64 (a .z) (b .z) }
+plusOf a b = record { x = a .x ⊕ b .x; y = a .y ⊕ b .y; z = a .z ⊕ b .z }
 
 abbrev pub minusOf : Vec3 → Vec3 → Vec3
-minusOf a b = record { x = sub binary64 (a .x) (b .x); y = sub binary64 (a .y) (b .y); z = sub binary64 (a .z) (b .z) }
+minusOf a b = record { x = a .x ⊖ b .x; y = a .y ⊖ b .y; z = a .z ⊖ b .z }
 
 abbrev pub timesOf : Vec3 → Float → Vec3
-timesOf a s = record { x = mul binary64 (a .x) s; y = mul binary64 (a .y) s; z = mul binary64 (a .z) s }
+timesOf a s = record { x = a .x ⊗ s; y = a .y ⊗ s; z = a .z ⊗ s }
 
 abbrev pub dotOf : Vec3 → Vec3 → Float
-dotOf a b = add binary64 (add binary64 (mul binary64 (a .x) (b .x)) (mul binary64 (a .y) (b .y))) (mul binary64 (a .z) (b .z))
+dotOf a b = a .x ⊗ b .x ⊕ a .y ⊗ b .y ⊕ a .z ⊗ b .z
 
 -- p * q - r * s
 abbrev pub minor : Float → Float → Float → Float → Float
-minor p q r s = sub binary64 (mul binary64 p q) (mul binary64 r s)
+minor p q r s = p ⊗ q ⊖ r ⊗ s
 
 abbrev pub crossOf : Vec3 → Vec3 → Vec3
 crossOf a b = record { x = minor (a .y) (b .z) (a .z) (b .y); y = minor (a .z) (b .x) (a .x) (b .z); z = minor (a .x) (b .y) (a .y) (b .x) }
@@ -47,7 +48,7 @@ pickDirection false a b = b
 
 -- a times 1 / length, where the length n is finite and above 2 ^ -511
 abbrev pub directionAt : Float → Vec3 → Direction
-directionAt n a = pickDirection (finite n && lt shortest n) (Unit (timesOf a (div binary64 one n))) Short
+directionAt n a = pickDirection (finite n && lt shortest n) (Unit (timesOf a (one ⊘ n))) Short
 
 unfoldable pub directionOf : Vec3 → Direction
 unfolding lengthOf
