@@ -1,0 +1,4 @@
+pub mod Steps
+pub mod Repeats
+pub mod Rings
+pub mod Values
