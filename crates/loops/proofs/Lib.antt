@@ -6,3 +6,4 @@ pub mod RepeatsLaw
 pub mod RingLaw
 pub mod StripLaw
 pub mod Projections
+pub mod SamePosition

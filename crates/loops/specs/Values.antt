@@ -1,10 +1,13 @@
--- Step counts, dropped repeats and turned rings, computed. Positions are numbers here, one where they are equal.
+-- Step counts, dropped repeats and turned rings, computed. Most positions are numbers here, one where they are equal.
 use Prim.Native.Nat.{ℕ, _+_, max}
 use mathlib.Core.Path.{_≡_, refl}
 use mathlib.Core.Bool.{Bool, _&&_}
 use mathlib.Core.List.{List, [], _∷_}
 use lib.Dec.{eqb, ltb}
+use lib.Ieee.{binary64, ofBits, eq}
 use lib.IntN.{pos, negsuc}
+use Rattle.numbers.specs.declared.math.Vec3.{Vec3}
+use Rattle.numbers.specs.Position as Position
 use Rattle.loops.specs.Steps.{net, netOf, count, stepsRound, stepsAlong}
 use Rattle.loops.specs.Repeats.{dropMerging, dropRepeats, dropSuccessive, dropTrailing, keptFrom, cutBack}
 use Rattle.loops.specs.Rings.{begun, closed, turned, unchanged}
@@ -46,6 +49,26 @@ upper-backward = refl
 walls-cancel : net eqb 1 7 strip ≡ pos 0
 unfolding net netOf count stepsRound stepsAlong strip
 walls-cancel = refl
+
+-- positions of three reals: -0 and 0 are one
+abbrev onAxis : ℕ → Vec3
+onAxis bits = record { x = ofBits binary64 bits; y = ofBits binary64 0; z = ofBits binary64 0 }
+
+abbrev P : Vec3
+P = onAxis 0
+
+abbrev P⁻ : Vec3
+P⁻ = onAxis 0x8000_0000_0000_0000
+
+abbrev Q : Vec3
+Q = onAxis 0x3ff0_0000_0000_0000
+
+abbrev R : Vec3
+R = onAxis 0x4000_0000_0000_0000
+
+signed-zero : net Position.same P Q (P⁻ ∷ Q ∷ R ∷ P ∷ []) ≡ pos 1
+unfolding net netOf count stepsRound stepsAlong Position.same eq ofBits
+signed-zero = refl
 
 -- ---- repeats: corners are positions with labels, compared by position
 
