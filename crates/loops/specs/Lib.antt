@@ -2,3 +2,9 @@ pub mod Steps
 pub mod Repeats
 pub mod Rings
 pub mod Values
+pub mod Area
+pub mod Branch
+pub mod Mean
+pub mod Span
+pub mod Wrap
+pub mod LeafValues

@@ -1,1 +1,7 @@
-// One loop and its steps. So far the meaning of step counts (specs/) and their laws (proofs/), and no functions.
+// One loop: the leaf functions of face.rs on slices of any length, and the mathematics of its steps
+// (specs/Steps, Repeats, Rings and their laws in proofs/).
+pub mod area;
+pub mod branch;
+pub mod mean;
+pub mod span;
+pub mod wrap;

@@ -1,0 +1,12 @@
+use borrow.Author.Needs.{needs}
+use Rattle.loops.proofs.branch.branch_shift.Statement.{statement}
+use Rattle.loops.proofs.branch.branch_shift.Tie as tie
+
+round-requires : tie.Need-round-requires
+round-requires c κs = search needs
+
+returns : tie.Need-returns
+returns c = rw (c .round .ensures)
+
+pub branch-shift-spec : {M : Type 1} → statement M
+branch-shift-spec = tie.close (tie.spec round-requires returns)

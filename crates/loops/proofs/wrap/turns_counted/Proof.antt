@@ -1,0 +1,41 @@
+use mathlib.Core.Path.{_∙_}
+use borrow.Author.Needs.{needs, sfits-of}
+use mir.Facts.{toZ-ofZ}
+use Rattle.loops.proofs.wrap.Laws.{counted, too-far-off, no-turn}
+use Rattle.loops.proofs.wrap.turns_counted.Statement.{statement}
+use Rattle.loops.proofs.wrap.turns_counted.Tie as tie
+
+round-requires : tie.Need-round-requires
+round-requires c κs = search needs
+
+abs-requires : tie.Need-abs-requires
+abs-requires c κs = search needs
+
+abs-requires-2 : tie.Need-abs-requires-2
+abs-requires-2 c κs = search needs
+
+saturated-requires : tie.Need-saturated-requires
+saturated-requires c κs = search needs
+
+returns : tie.Need-returns
+returns c =
+    let at = c .before .before .before in
+    toZ-ofZ (sfits-of (c .saturated .ok)) ∙ c .saturated .ensures ∙ counted _ _ _ _ (at .before .before .round .ensures) (at .before .abs .ensures) (at .if1 .taken) (c .before .before .abs2 .ensures) (c .before .if2 .taken)
+
+returns-2 : tie.Need-returns-2
+returns-2 c = too-far-off _ _ _ (c .before .before .before .before .round .ensures) (c .before .abs2 .ensures) (c .if2 .left)
+
+returns-3 : tie.Need-returns-3
+returns-3 c = no-turn _ _ _ (c .before .before .round .ensures) (c .before .abs .ensures) (c .if1 .left)
+
+pub turns-counted-spec : {M : Type 1} → statement M
+turns-counted-spec =
+    tie.close
+    (tie.spec
+    round-requires
+    abs-requires
+    abs-requires-2
+    saturated-requires
+    returns
+    returns-2
+    returns-3)
