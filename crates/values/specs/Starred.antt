@@ -1,46 +1,53 @@
 -- 01, "Values to hold": those marked * are proved together as one listed check of the meanings. The prover computes each of them; none is assumed.
 use mathlib.Core.Path.{_≡_, refl}
 use mathlib.Core.Bool.{true}
-use Prim.Native.Nat.{ℕ}
-use lib.Ieee.{Float, binary64, add, sub, mul, div, neg, lt, le, eq, ofBits, toBits, ofInt}
+use mathlib.Core.List.{List, [], _∷_}
+use lib.IntN.{pos, negsuc}
+use lib.Ieee.{Float, binary64, add, sub, mul, div, neg, lt, le, eq, ofBits, toBits, ofInt, toSigned}
 use Rattle.numbers.specs.Constants.{plusZero, half, one, H, TAU}
+use Rattle.numbers.specs.Rounded.{_⊘_, count}
+use Rattle.numbers.specs.Order.{absOf}
 use Rattle.numbers.specs.Round.{roundAway, floorOf}
 use Rattle.numbers.specs.Sqrt.{sqrtOf}
 use Rattle.numbers.specs.Trig.{sincosOf}
+use Rattle.loops.specs.Area.{areaOf, crossSum, crossAt}
+use Rattle.loops.specs.Branch.{nearestBranch}
+use Rattle.loops.specs.Wrap.{netWrap, turnsCounted}
 
--- reals by their bits, named by their values
-abbrev quarter : Float
-quarter = ofBits binary64 0x3fd0_0000_0000_0000
-
-abbrev two : Float
-two = ofBits binary64 0x4000_0000_0000_0000
-
-abbrev two-and-a-half : Float
-two-and-a-half = ofBits binary64 0x4004_0000_0000_0000
-
-abbrev three : Float
-three = ofBits binary64 0x4008_0000_0000_0000
-
-abbrev nine : Float
-nine = ofBits binary64 0x4022_0000_0000_0000
+-- a loop that travels so far in u
+abbrev travels : Float → List Float
+travels far = count 0 ∷ far ∷ []
 
 pub record Starred : Type 0 where
   -- round: 0.5 to 1; -0.5 to -1; 2.5 to 3; -0.25 to -0. floor(-0.5) = -1
   pub round-half : roundAway half ≡ one
   pub round-minus-half : roundAway (neg half) ≡ neg one
-  pub round-two-and-a-half : roundAway two-and-a-half ≡ three
-  pub round-minus-quarter : roundAway (neg quarter) ≡ neg plusZero
+  pub round-two-and-a-half : roundAway (count 5 ⊘ count 2) ≡ count 3
+  pub round-minus-quarter : roundAway (neg (one ⊘ count 4)) ≡ neg plusZero
   pub floor-minus-half : floorOf (neg half) ≡ neg one
   -- sqrt(9) = 3; sqrt(2) has bits 0x3FF6A09E667F3BCD
-  pub sqrt-nine : sqrtOf nine ≡ three
-  pub sqrt-two : toBits binary64 (sqrtOf two) ≡ 0x3ff6_a09e_667f_3bcd
+  pub sqrt-nine : sqrtOf (count 9) ≡ count 3
+  pub sqrt-two : toBits binary64 (sqrtOf (count 2)) ≡ 0x3ff6_a09e_667f_3bcd
   -- sin H = 1, cos H = 0 as a number; cos TAU = 1
   pub sin-H : sincosOf H .sin ≡ one
   pub cos-H : eq (sincosOf H .cos) plusZero ≡ true
   pub cos-TAU : sincosOf TAU .cos ≡ one
+  -- `nearest_branch`(7, 0, 4) = -1; (6, 0, 4) = -2; (5, 0, 0) = 5
+  pub branch-of-7 : nearestBranch (count 7) (count 0) (count 4) ≡ neg (count 1)
+  pub branch-of-6 : nearestBranch (count 6) (count 0) (count 4) ≡ neg (count 2)
+  pub branch-of-5 : nearestBranch (count 5) (count 0) (count 0) ≡ count 5
+  -- period 4: travel 4.5 wraps 1, 4.75 wraps 0, 3.5 wraps 1, 2 wraps 0, -8 wraps -2
+  pub wraps-4·5 : netWrap (travels (count 9 ⊘ count 2)) (count 4) ≡ pos 1
+  pub wraps-4·75 : netWrap (travels (count 19 ⊘ count 4)) (count 4) ≡ pos 0
+  pub wraps-3·5 : netWrap (travels (count 7 ⊘ count 2)) (count 4) ≡ pos 1
+  pub wraps-2 : netWrap (travels (count 2)) (count 4) ≡ pos 0
+  pub wraps-minus-8 : netWrap (travels (neg (count 8))) (count 4) ≡ negsuc 1
+  -- corners (0,0), (4,0), (0,3): area 6; reversed -6
+  pub area : areaOf (count 0 ∷ count 4 ∷ count 0 ∷ []) (count 0 ∷ count 0 ∷ count 3 ∷ []) ≡ count 6
+  pub area-reversed : areaOf (count 0 ∷ count 4 ∷ count 0 ∷ []) (count 3 ∷ count 0 ∷ count 0 ∷ []) ≡ neg (count 6)
 
 pub starred : Starred
-unfolding roundAway floorOf sqrtOf sincosOf add sub mul div neg lt le eq ofBits toBits ofInt
+unfolding roundAway floorOf absOf sqrtOf sincosOf nearestBranch netWrap turnsCounted areaOf crossSum crossAt add sub mul div neg lt le eq ofBits toBits ofInt toSigned
 starred =
     record {
       round-half = refl;
@@ -53,4 +60,14 @@ starred =
       sin-H = refl;
       cos-H = refl;
       cos-TAU = refl;
+      branch-of-7 = refl;
+      branch-of-6 = refl;
+      branch-of-5 = refl;
+      wraps-4·5 = refl;
+      wraps-4·75 = refl;
+      wraps-3·5 = refl;
+      wraps-2 = refl;
+      wraps-minus-8 = refl;
+      area = refl;
+      area-reversed = refl;
     }
