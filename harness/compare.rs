@@ -1,10 +1,11 @@
 //! Compares the Rattle crates with the Rust that they were ported from, on the same inputs and
 //! bit for bit.
 //!
-//!     compare [--seed N] [--times N]
+//!     compare [--seed N] [--times N] [--only LAYER]
 
 mod compared;
 mod items;
+mod loops;
 mod numbers;
 mod patterns;
 mod random;
@@ -18,21 +19,29 @@ mod original {
 
 use report::Run;
 
+const LAYERS: &[(&str, fn(&Run))] = &[("numbers", numbers::compare), ("loops", loops::compare)];
+
 fn main() {
     let mut run = Run { seed: 1, times: 1 };
+    let mut layers = LAYERS;
     let mut arguments = std::env::args().skip(1);
     while let Some(option) = arguments.next() {
-        let value = arguments.next().and_then(|v| v.parse().ok());
-        match (option.as_str(), value) {
-            ("--seed", Some(seed)) => run.seed = seed,
-            ("--times", Some(times)) => run.times = times,
+        let value = arguments.next().unwrap_or_default();
+        let layer = LAYERS.iter().position(|(name, _)| *name == value);
+        match (option.as_str(), value.parse(), layer) {
+            ("--seed", Ok(seed), _) => run.seed = seed,
+            ("--times", Ok(times), _) => run.times = times,
+            ("--only", _, Some(layer)) => layers = &LAYERS[layer..=layer],
             _ => {
-                eprintln!("usage: compare [--seed N] [--times N]");
+                eprintln!("usage: compare [--seed N] [--times N] [--only LAYER]");
                 std::process::exit(2);
             }
         }
     }
     println!("comparison: seed {}, times {}", run.seed, run.times);
-    numbers::compare(&run);
+    for (name, compare) in layers {
+        println!("comparison: layer {name}");
+        compare(&run);
+    }
     println!("comparison: all equal");
 }

@@ -4,7 +4,9 @@
 use crate::compared::{self, Placement, Point};
 use crate::items::{Order, Real};
 use crate::original::{Frame, Vec3};
-use crate::patterns::{about_square, about_whole, angle, cosine, edges, few_edges, power_of_two};
+use crate::patterns::{
+    about_square, about_whole, angle, cosine, edges, few_edges, number, power_of_two,
+};
 use crate::random::Random;
 use crate::report::Run;
 
@@ -69,11 +71,6 @@ fn binary(
         check.case(&[a, b], &[rattle(a, b)], &[rust(a, b)]);
     }
     check.done();
-}
-
-/// Any pattern, and now and then an edge.
-fn number(random: &mut Random) -> f64 {
-    if random.one_in(4) { random.choose(&few_edges()) } else { random.pattern() }
 }
 
 fn frame_new(run: &Run) {

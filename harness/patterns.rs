@@ -80,6 +80,11 @@ pub fn few_edges() -> Vec<f64> {
     out
 }
 
+/// Any pattern, and now and then an edge.
+pub fn number(random: &mut Random) -> f64 {
+    if random.one_in(4) { random.choose(&few_edges()) } else { random.pattern() }
+}
+
 /// A real of any size about which rounding decides something: below 2^55, often near a half.
 pub fn about_whole(random: &mut Random) -> f64 {
     let size = power_of_two(random.below(60) as i32 - 4);

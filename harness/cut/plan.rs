@@ -78,6 +78,7 @@ impl Cut {
 pub fn plan() -> Vec<Cut> {
     let mut all = numbers();
     all.extend(surfaces());
+    all.extend(loops());
     all
 }
 
@@ -150,5 +151,16 @@ fn surfaces() -> Vec<Cut> {
             .replace(ITEM_1, ".tan()", ".tangent()", 1)
             .replace(ITEM_1, ".cos()", ".cosine()", 1)
             .order(0, 2),
+    ]
+}
+
+/// The leaf functions on one loop.
+fn loops() -> Vec<Cut> {
+    vec![
+        cut(FACE, "fn nearest_branch"),
+        cut(FACE, "fn net_wrap"),
+        cut(FACE, "fn signed_area"),
+        cut(FACE, "fn mean_v"),
+        cut(FACE, "fn span").order(1, 1),
     ]
 }

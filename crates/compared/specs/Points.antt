@@ -1,8 +1,8 @@
 -- Points and frames as they cross to another language, and those of `numbers`: the same reals.
 use Rattle.numbers.specs.declared.math.Vec3.{Vec3}
 use Rattle.numbers.specs.declared.math.Frame.{Frame}
-use Rattle.compared.specs.declared.Point.{Point}
-use Rattle.compared.specs.declared.Placement.{Placement}
+use Rattle.compared.specs.declared.of_numbers.Point.{Point}
+use Rattle.compared.specs.declared.of_numbers.Placement.{Placement}
 
 abbrev pub vecOf : Point → Vec3
 vecOf p = record { x = p .x; y = p .y; z = p .z }
