@@ -1,0 +1,13 @@
+-- A list changed at a place or in a part.
+use Prim.Native.Nat.{ℕ, _-_}
+use mathlib.Core.List.{List, _++_}
+use lib.ListN.{length, getD, set, take, drop}
+
+module _ {A : Type 0} where
+  -- f of the elements from a up to e, with the rest as it was
+  unfoldable pub onPart : (List A → List A) → ℕ → ℕ → List A → List A
+  onPart f a e xs = take a xs ++ (f (take (e - a) (drop a xs)) ++ drop (e - a) (drop a xs))
+
+  -- the elements at i and j exchanged; z is read past the end
+  unfoldable pub swapped : A → ℕ → ℕ → List A → List A
+  swapped z i j xs = set (set xs i (getD xs j z)) j (getD xs i z)
