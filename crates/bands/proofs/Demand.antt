@@ -1,0 +1,319 @@
+-- Demand 3 holds of a band as it is defined.
+use Prim.Native.Nat.{ℕ, zero, suc, _+_, _<_}
+use mathlib.Core.Path.{_≡_, refl, sym, ap, _∙_, subst}
+use mathlib.Core.Bool.{Bool, true, false, cond, not, _||_, true≢false}
+use mathlib.Core.List.{List, [], _∷_, _++_, map, reverse, map-map, map-append}
+use mathlib.Core.Logic.{_⊎_, inl, inr}
+use native.Mathlib.Omega.{arith}
+use lib.Dec.{ltb, eqb}
+use lib.IntN.{ℤ, _+ℤ_, negℤ}
+use lib.Ieee.{Float, ne}
+use lib.ListN.{length, length-map}
+use Rattle.numbers.specs.Rounded.{_⊕_, _⊖_}
+use Rattle.lists.proofs.Maps.{map-reverse}
+use Rattle.loops.specs.Steps.{PartialEquivalence, net}
+use Rattle.loops.specs.Repeats.{dropRepeats, keep}
+use Rattle.loops.specs.Rings.{begun, closed, turned, unchanged, endsMeet}
+use Rattle.loops.proofs.Paths.{net-reverse}
+use Rattle.loops.proofs.StripLaw.{net-strip}
+use Rattle.loops.proofs.RingLaw.{net-turned, ends-reverse}
+use Rattle.loops.proofs.RepeatsLaw.{net-dropRepeats}
+use Rattle.loops.proofs.Projections.{map-dropRepeats}
+use Rattle.bands.specs.Corners.{Corner, Corners, us, positions, moveU, moveV}
+use Rattle.bands.specs.Choices.{firstOf, nearest}
+use Rattle.bands.specs.Rings.{unlessZero, beginRingAt, turnedOnto, alignAt, Loop, Given, Face, rising, shifted, laid, raised, seam, onto, onStrip, acrossSeam, gapOf, cutAnew, hasStrip, hasGap, reseam, alignCuts, slideToCut, trial, start, started}
+use Rattle.bands.specs.Strip.{Setting, heights, wall, strip}
+use Rattle.bands.specs.Band.{pick, pickLoop, joined, lowerFirst, lower, upper, lowerRing, upperRing, stripOf, outer, holes}
+use Rattle.bands.specs.Demand.{ring, Turn, Demand3}
+use Rattle.bands.proofs.Carried.{map-cond, map-each, map-unlessZero, map-beginRingAt, map-alignAt}
+use Rattle.bands.proofs.Lengths.{length-first, length-later}
+
+module _ {A : Type 0} where
+  abbrev at : Corner A → A
+  at c = c .at
+
+  -- ---- positions are carried
+
+  unmoved-u : (f : Float → Float) (r : Corners A) → positions (map (moveU f) r) ≡ positions r
+  unmoved-u f r = map-map at (moveU f) r
+
+  unmoved-v : (f : Float → Float) (r : Corners A) → positions (map (moveV f) r) ≡ positions r
+  unmoved-v f r = map-map at (moveV f) r
+
+  unless-same : (step : Float) (xs : List A) → unlessZero step unchanged xs ≡ xs
+  unfolding unlessZero
+  unless-same step xs = both (ne step _)
+    where
+      all : (xs : List A) → map unchanged xs ≡ xs
+      all [] = refl
+      all (x ∷ xs) = ap (λ (l : List A). x ∷ l) (all xs)
+
+      both : (t : Bool) → cond t (map unchanged xs) xs ≡ xs
+      both true = all xs
+      both false = refl
+
+  -- ---- a ring turned
+
+  turn-if : (t : Bool) (k : ℕ) (xs : List A) → Turn xs (cond t xs (turned unchanged k xs))
+  turn-if true k xs = inl refl
+  turn-if false k xs = inr (k, refl)
+
+  begin-turn : (k : ℕ) (xs : List A) → Turn xs (beginRingAt unchanged k xs)
+  unfolding beginRingAt
+  begin-turn k xs = turn-if (eqb k 0 || ltb (length xs) 4) k xs
+
+  align-turn : (k : ℕ) (xs : List A) → Turn xs (alignAt unchanged unchanged k xs)
+  unfolding alignAt turnedOnto turned
+  align-turn k xs =
+      subst (λ (ys : List A). Turn xs (cond (ltb (length xs) 3) xs (closed unchanged ys))) (sym (unmoved (begun unchanged k _)))
+      (turn-if (ltb (length xs) 3) k xs)
+    where
+      unmoved : (ys : List A) → map unchanged ys ≡ ys
+      unmoved [] = refl
+      unmoved (y ∷ ys) = ap (λ (l : List A). y ∷ l) (unmoved ys)
+
+  -- a turn of a ring whose ends meet has its counts
+  module _ (same : A → A → Bool) (P : PartialEquivalence same) where
+    net-turn : (a b : A) (xs ys : List A) → Turn xs ys → endsMeet same xs ≡ true → net same a b ys ≡ net same a b xs
+    net-turn a b xs ys (inl e) h = ap (net same a b) e
+    net-turn a b xs ys (inr (k, e)) h = ap (net same a b) e ∙ net-turned same P a b k xs h
+
+    ring-meets : (l : Loop A) → endsMeet same (positions (l .corners)) ≡ true → endsMeet same (ring l) ≡ true
+    unfolding ring
+    ring-meets l h = at-travel (l .falls)
+      where
+        at-travel : (t : Bool) → endsMeet same (cond t (reverse (positions (l .corners))) (positions (l .corners))) ≡ true
+        at-travel true = ends-reverse same P (positions (l .corners)) h
+        at-travel false = h
+
+  rising-is : (l : Loop A) → positions (rising l) ≡ ring l
+  unfolding rising ring
+  rising-is l = map-cond at (l .falls) (reverse (l .corners)) (l .corners) ∙ ap (λ (xs : List A). cond (l .falls) xs (positions (l .corners))) (map-reverse at (l .corners))
+
+-- ---- rings and holes up to the strip
+
+module _ {A : Type 0} (period : Float) where
+  laid-first : (given : Given A) → positions (laid period given .first) ≡ ring (given .first)
+  unfolding laid shifted
+  laid-first given = unmoved-u _ (rising (given .first)) ∙ rising-is (given .first)
+
+  laid-later : (given : Given A) → positions (laid period given .later) ≡ ring (given .later)
+  unfolding laid shifted
+  laid-later given = unmoved-u _ (rising (given .later)) ∙ rising-is (given .later)
+
+  -- where no hole is across `reseam` leaves the rings
+  reseam-part : {B : Type 0} (part : Face A → B) (face : Face A) → acrossSeam period face ≡ false → part (onStrip period face) ≡ part face
+      → part (reseam period face) ≡ part face
+  unfolding reseam
+  reseam-part {B} part face clear e = outcome (hasStrip period face) (acrossSeam period face) (hasGap period face) clear
+    where
+      outcome : (s t b : Bool) → t ≡ false → part (cond s (cond t (cond b (cutAnew period face) (onStrip period face)) (onStrip period face)) face) ≡ part face
+      outcome false t b h = refl
+      outcome true false b h = e
+      outcome true true b h = absurd (true≢false h)
+
+  onto-is : (lo : Float) (hole : Corners A) → positions (onto period lo hole) ≡ positions hole
+  unfolding onto
+  onto-is lo hole = map-unlessZero at _ unchanged (λ c. refl) _ hole ∙ unless-same _ (positions hole)
+
+  ontos-are : (lo : Float) (hs : List (Corners A)) → map positions (map (onto period lo) hs) ≡ map positions hs
+  ontos-are lo [] = refl
+  ontos-are lo (h ∷ hs) = λ i. onto-is lo h i ∷ ontos-are lo hs i
+
+  reseam-holes : (face : Face A) → map positions (reseam period face .holes) ≡ map positions (face .holes)
+  unfolding reseam onStrip cutAnew
+  reseam-holes face = outcome (hasStrip period face) (acrossSeam period face) (hasGap period face)
+    where
+      on : map positions (onStrip period face .holes) ≡ map positions (face .holes)
+      on = ontos-are (seam period face) (face .holes)
+
+      outcome : (s t b : Bool)
+          → map positions (cond s (cond t (cond b (cutAnew period face) (onStrip period face)) (onStrip period face)) face .holes) ≡ map positions (face .holes)
+      outcome false t b = refl
+      outcome true false b = on
+      outcome true true false = on
+      outcome true true true = ontos-are (gapOf period face .cut) (onStrip period face .holes) ∙ on
+
+  begun-turn : (k : ℕ) (r : Corners A) → Turn (positions r) (positions (beginRingAt (raised period) k r))
+  begun-turn k r =
+      subst (Turn (positions r)) (sym (map-beginRingAt at (raised period) unchanged (λ c. refl) k r)) (begin-turn k (positions r))
+
+  aligned-turn : (cut : Float) (r : Corners A) → Turn (positions r) (positions (slideToCut period cut (alignCuts period cut r)))
+  unfolding slideToCut alignCuts
+  aligned-turn cut r =
+      subst (Turn (positions r))
+      (sym (map-unlessZero at _ unchanged (λ c. refl) _ (alignCuts period cut r) ∙ unless-same _ (positions (alignCuts period cut r))
+      ∙ map-alignAt at (raised period) unchanged (λ c. refl) _ unchanged (λ c. refl) (nearest period cut (us r)) r))
+      (align-turn (nearest period cut (us r)) (positions r))
+
+-- ---- the strip
+
+module _ {A : Type 0} (S : Setting A) where
+  abbrev wallOf : Corner A → Corner A → List A
+  wallOf l u = map (S .pointAt (l .u)) (heights S (l .v) (u .v))
+
+  wall-is : (begin u : Float) (vs : List Float) → positions (wall S begin u vs) ≡ map (S .pointAt begin) vs
+  wall-is begin u vs = map-map at (λ v. record { u = u; v = v; at = S .pointAt begin v }) vs
+
+  strip-walls : (l : Corner A) (L : Corners A) (u : Corner A) (U : Corners A)
+      → positions (strip S (l ∷ L) (u ∷ U))
+      ≡ positions (l ∷ L) ++ (l .at ∷ wallOf l u) ++ (u .at ∷ reverse (positions (u ∷ U))) ++ reverse (wallOf l u)
+  unfolding strip
+  strip-walls l L u U =
+      in-four (l ∷ L) (corner end (l .v) (l .at) ∷ wall S (l .u) end up) (corner end (u .v) (u .at) ∷ reverse (u ∷ U)) (reverse (wall S (l .u) (l .u) up))
+      ∙ (λ i. positions (l ∷ L) ++ (l .at ∷ wall-is (l .u) end up i) ++ (u .at ∷ map-reverse at (u ∷ U) i) ++ back i)
+    where
+      end : Float
+      end = l .u ⊕ S .period
+
+      up : List Float
+      up = heights S (l .v) (u .v)
+
+      corner : Float → Float → A → Corner A
+      corner u v a = record { u = u; v = v; at = a }
+
+      in-four : (a b c d : Corners A) → positions (a ++ b ++ c ++ d) ≡ positions a ++ positions b ++ positions c ++ positions d
+      in-four a b c d = simp map-append
+
+      back : positions (reverse (wall S (l .u) (l .u) up)) ≡ reverse (wallOf l u)
+      back = map-reverse at (wall S (l .u) (l .u) up) ∙ ap reverse (wall-is (l .u) (l .u) up)
+
+  -- ---- the band
+
+  outer-is : (given : Given A) → positions (outer S given) ≡ dropRepeats (S .same) (positions (stripOf S given))
+  unfolding outer
+  outer-is given = map-dropRepeats at (S .same) keep (λ kept x. refl) (stripOf S given)
+
+  holes-are : (given : Given A) → map positions (holes S given) ≡ map positions (given .holes)
+  unfolding holes joined started trial laid
+  holes-are given = reseam-holes (S .period) (laid (S .period) given)
+
+  module _ (given : Given A) (clear : acrossSeam (S .period) (laid (S .period) given) ≡ false) where
+    first-turn : Turn (ring (given .first)) (positions (joined S given .first))
+    unfolding joined started trial onStrip
+    first-turn =
+        let f = reseam (S .period) (laid (S .period) given) in
+        let e = reseam-part (S .period) (λ (x : Face A). positions (x .first)) (laid (S .period) given) clear refl ∙ laid-first (S .period) given in
+        subst (λ (xs : List A). Turn xs (positions (joined S given .first))) e (begun-turn (S .period) (start (S .period) f) (f .first))
+
+    later-turn : Turn (ring (given .later)) (positions (joined S given .later))
+    unfolding joined started trial onStrip
+    later-turn =
+        let f = reseam (S .period) (laid (S .period) given) in
+        let e = reseam-part (S .period) (λ (x : Face A). positions (x .later)) (laid (S .period) given) clear refl ∙ laid-later (S .period) given in
+        subst (λ (xs : List A). Turn xs (positions (joined S given .later))) e
+        (aligned-turn (S .period) (firstOf (us (beginRingAt (raised (S .period)) (start (S .period) f) (f .first)))) (f .later))
+
+    pick-turn : (t : Bool) → Turn (ring (pickLoop t given)) (positions (pick t (joined S given)))
+    pick-turn true = first-turn
+    pick-turn false = later-turn
+
+    lower-turn : Turn (ring (lower S given)) (positions (lowerRing S given))
+    unfolding lowerRing
+    lower-turn = pick-turn (lowerFirst S given)
+
+    upper-turn : Turn (ring (upper S given)) (positions (upperRing S given))
+    unfolding upperRing
+    upper-turn =
+        subst (Turn (ring (upper S given))) (sym (unmoved-v _ (pick (not (lowerFirst S given)) (joined S given)))) (pick-turn (not (lowerFirst S given)))
+
+  -- ---- the rings have points
+
+  some-map : (f : Corner A → Corner A) (r : Corners A) → 0 < length r → 0 < length (map f r)
+  some-map f r h = rw (length-map r f) h
+
+  module _ (given : Given A) (some₁ : 0 < length (given .first .corners)) (some₂ : 0 < length (given .later .corners)) where
+    some-picked : (t : Bool) → 0 < length (pick t (joined S given))
+    unfolding joined
+    some-picked true = let e = length-first (S .period) given in omega arith
+    some-picked false = let e = length-later (S .period) given in omega arith
+
+    some-lower : 0 < length (lowerRing S given)
+    unfolding lowerRing
+    some-lower = some-picked (lowerFirst S given)
+
+    some-upper : 0 < length (upperRing S given)
+    unfolding upperRing
+    some-upper = some-map _ (pick (not (lowerFirst S given)) (joined S given)) (some-picked (not (lowerFirst S given)))
+
+-- ---- demand 3
+
+-- a list that has a first
+head-tail : {B : Type 0} (xs : List B) → 0 < length xs → (x : B) × ((rest : List B) × (xs ≡ x ∷ rest))
+head-tail [] h = absurd (omega arith)
+head-tail (x ∷ rest) h = (x, (rest, refl))
+
+module _ {A : Type 0} (S : Setting A) (P : PartialEquivalence (S .same)) (given : Given A) where
+  -- 01, refusals 4 and 8: the loops have points, and the last repeats the first
+  pub record Whole : Type 0 where
+    pub some-first : 0 < length (given .first .corners)
+    pub some-later : 0 < length (given .later .corners)
+    pub first-meets : endsMeet (S .same) (positions (given .first .corners)) ≡ true
+    pub later-meets : endsMeet (S .same) (positions (given .later .corners)) ≡ true
+
+  meets : Whole → (t : Bool) → endsMeet (S .same) (positions (pickLoop t given .corners)) ≡ true
+  meets w true = w .first-meets
+  meets w false = w .later-meets
+
+  abbrev steps : A → A → List A → ℤ
+  steps a b xs = net (S .same) a b xs
+
+  turned-steps : (a b : A) (l : Loop A) (ys : List A) → endsMeet (S .same) (positions (l .corners)) ≡ true → Turn (ring l) ys → steps a b ys ≡ steps a b (ring l)
+  turned-steps a b l ys h t = net-turn (S .same) P a b (ring l) ys t (ring-meets (S .same) P l h)
+
+  -- the counts of a strip whose rings are turns of those given
+  strip-steps : Whole → (a b : A) (l : Corner A) (L : Corners A) (u : Corner A) (U : Corners A)
+      → Turn (ring (lower S given)) (positions (l ∷ L)) → Turn (ring (upper S given)) (positions (u ∷ U))
+      → steps a b (positions (strip S (l ∷ L) (u ∷ U))) ≡ steps a b (ring (lower S given)) +ℤ steps a b (reverse (ring (upper S given)))
+  strip-steps w a b l L u U low up =
+      ap (steps a b) (strip-walls S l L u U)
+      ∙ net-strip (S .same) a b (l .at) (positions L) (wallOf S l u) (u .at) (positions U)
+      ∙ (λ i. turned-steps a b (lower S given) (positions (l ∷ L)) (meets w (lowerFirst S given)) low i +ℤ back i)
+    where
+      back : steps a b (reverse (positions (u ∷ U))) ≡ steps a b (reverse (ring (upper S given)))
+      back =
+          net-reverse (S .same) a b (positions (u ∷ U))
+          ∙ ap negℤ (turned-steps a b (upper S given) (positions (u ∷ U)) (meets w (not (lowerFirst S given))) up)
+          ∙ sym (net-reverse (S .same) a b (ring (upper S given)))
+
+  stripped : (l : Corner A) (L : Corners A) (u : Corner A) (U : Corners A) → lowerRing S given ≡ l ∷ L → upperRing S given ≡ u ∷ U
+      → positions (stripOf S given) ≡ positions (strip S (l ∷ L) (u ∷ U))
+  unfolding stripOf
+  stripped l L u U le ue = λ i. positions (strip S (le i) (ue i))
+
+  pub demand3 : Whole → Demand3 S given (positions (outer S given)) (map positions (holes S given))
+  demand3 w =
+      claim (head-tail (lowerRing S given) (some-lower S given (w .some-first) (w .some-later)))
+      (head-tail (upperRing S given) (some-upper S given (w .some-first) (w .some-later)))
+    where
+      First : Corners A → Type 0
+      First r = (c : Corner A) × ((rest : Corners A) × (r ≡ c ∷ rest))
+
+      claim : First (lowerRing S given) → First (upperRing S given) → Demand3 S given (positions (outer S given)) (map positions (holes S given))
+      claim (l, (L, le)) (u, (U, ue)) = record {
+        l = l;
+        L = L;
+        lower-is = le;
+        u = u;
+        U = U;
+        upper-is = ue;
+        W = wallOf S l u;
+        wall-is = refl;
+        strip-is = strip-of ∙ strip-walls S l L u U;
+        outer-is = outer-is S given;
+        holes-are = holes-are S given;
+        lower-turned = low;
+        upper-turned = up;
+        counts = λ clear a b.
+            ap (steps a b) (outer-is S given) ∙ net-dropRepeats (S .same) P a b (positions (stripOf S given))
+            ∙ ap (steps a b) strip-of ∙ strip-steps w a b l L u U (low clear) (up clear);
+      }
+        where
+          strip-of : positions (stripOf S given) ≡ positions (strip S (l ∷ L) (u ∷ U))
+          strip-of = stripped l L u U le ue
+
+          low : acrossSeam (S .period) (laid (S .period) given) ≡ false → Turn (ring (lower S given)) (positions (l ∷ L))
+          low clear = subst (λ (r : Corners A). Turn (ring (lower S given)) (positions r)) le (lower-turn S given clear)
+
+          up : acrossSeam (S .period) (laid (S .period) given) ≡ false → Turn (ring (upper S given)) (positions (u ∷ U))
+          up clear = subst (λ (r : Corners A). Turn (ring (upper S given)) (positions r)) ue (upper-turn S given clear)

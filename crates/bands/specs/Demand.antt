@@ -1,0 +1,47 @@
+-- Demand 3, of a band as it is defined: the words of 01, "Bands", last paragraph.
+use Prim.Native.Nat.{ℕ}
+use mathlib.Core.Path.{_≡_}
+use mathlib.Core.Logic.{_⊎_}
+use mathlib.Core.Bool.{Bool, true, false, cond}
+use mathlib.Core.List.{List, _∷_, _++_, map, reverse}
+use lib.IntN.{_+ℤ_}
+use Rattle.loops.specs.Steps.{net}
+use Rattle.loops.specs.Repeats.{dropRepeats}
+use Rattle.loops.specs.Rings.{turned, unchanged}
+use Rattle.bands.specs.Corners.{Corner, Corners, positions}
+use Rattle.bands.specs.Rings.{Loop, Given, laid, acrossSeam}
+use Rattle.bands.specs.Strip.{Setting, heights}
+use Rattle.bands.specs.Band.{lower, upper, lowerRing, upperRing, stripOf}
+
+module _ {A : Type 0} where
+  -- "a ring is the list of all positions that the face record gives for one of the two wrapping loops: in file order where its travel is positive, from last
+  -- to first where it is negative"
+  unfoldable pub ring : Loop A → List A
+  ring l = cond (l .falls) (reverse (positions (l .corners))) (positions (l .corners))
+
+  -- ys is the ring xs, as it is or begun at another of its points
+  abbrev pub Turn : List A → List A → Type 0
+  Turn xs ys = (ys ≡ xs) ⊎ ((k : ℕ) × (ys ≡ turned unchanged k xs))
+
+-- the claim, of the positions of the outer loop and of the holes
+pub record Demand3 {A : Type 0} (S : Setting A) (given : Given A) (outer : List A) (holes : List (List A)) : Type 0 where
+  -- the rings as the strip takes them
+  pub l : Corner A
+  pub L : Corners A
+  pub lower-is : lowerRing S given ≡ l ∷ L
+  pub u : Corner A
+  pub U : Corners A
+  pub upper-is : upperRing S given ≡ u ∷ U
+  -- "A wall is a stretch of the strip between the two rings, the surface points at the inner rungs named above", at the lower ring's first u
+  pub W : List A
+  pub wall-is : W ≡ map (S .pointAt (l .u)) (heights S (l .v) (u .v))
+  -- "The second wall is the first read backward, to the bit."
+  pub strip-is : positions (stripOf S given) ≡ positions (l ∷ L) ++ (l .at ∷ W) ++ (u .at ∷ reverse (positions (u ∷ U))) ++ reverse W
+  pub outer-is : outer ≡ dropRepeats (S .same) (positions (stripOf S given))
+  -- "A hole is a loop that does not wrap; each is in the result once, its given positions unchanged to the bit and in file order."
+  pub holes-are : holes ≡ map positions (given .holes)
+  -- where no hole lies across the seam: the rings are those given, and the counts are theirs
+  pub lower-turned : acrossSeam (S .period) (laid (S .period) given) ≡ false → Turn (ring (lower S given)) (positions (l ∷ L))
+  pub upper-turned : acrossSeam (S .period) (laid (S .period) given) ≡ false → Turn (ring (upper S given)) (positions (u ∷ U))
+  pub counts : acrossSeam (S .period) (laid (S .period) given) ≡ false → (a b : A)
+      → net (S .same) a b outer ≡ net (S .same) a b (ring (lower S given)) +ℤ net (S .same) a b (reverse (ring (upper S given)))

@@ -1,0 +1,8 @@
+pub mod Corners
+pub mod Choices
+pub mod Gap
+pub mod Rings
+pub mod Strip
+pub mod Band
+pub mod Demand
+pub mod Values
