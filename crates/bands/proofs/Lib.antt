@@ -1,3 +1,5 @@
 pub mod Carried
 pub mod Lengths
+pub mod Turning
+pub mod Decisions
 pub mod Demand
