@@ -20,12 +20,14 @@ use Rattle.loops.proofs.RingLaw.{net-turned, ends-reverse}
 use Rattle.loops.proofs.RepeatsLaw.{net-dropRepeats}
 use Rattle.loops.proofs.Projections.{map-dropRepeats}
 use Rattle.bands.specs.Corners.{Corner, Corners, us, positions, moveU, moveV}
-use Rattle.bands.specs.Choices.{firstOf, nearest}
-use Rattle.bands.specs.Rings.{unlessZero, beginRingAt, turnedOnto, alignAt, Loop, Given, Face, rising, shifted, laid, raised, seam, onto, onStrip, acrossSeam, gapOf, cutAnew, hasStrip, hasGap, reseam, alignCuts, slideToCut, trial, start, started}
+use Rattle.rings.specs.Choices.{firstOf, nearest}
+use Rattle.rings.specs.Turns.{unlessZero, beginRingAt, turnedOnto, alignAt}
+use Rattle.rings.specs.Starts.{start}
+use Rattle.rings.proofs.Carried.{map-cond, map-unlessZero, map-beginRingAt, map-alignAt}
+use Rattle.bands.specs.Rings.{Loop, Given, Face, rising, shifted, laid, raised, seam, onto, onStrip, acrossSeam, gapOf, cutAnew, hasStrip, hasGap, reseam, alignCuts, slideToCut, trial, started}
 use Rattle.bands.specs.Strip.{Setting, heights, wall, strip}
 use Rattle.bands.specs.Band.{pick, pickLoop, joined, lowerFirst, lower, upper, lowerRing, upperRing, stripOf, outer, holes}
 use Rattle.bands.specs.Demand.{ring, Turn, Demand3}
-use Rattle.bands.proofs.Carried.{map-cond, map-each, map-unlessZero, map-beginRingAt, map-alignAt}
 use Rattle.bands.proofs.Lengths.{length-first, length-later}
 
 module _ {A : Type 0} where
@@ -194,7 +196,7 @@ module _ {A : Type 0} (S : Setting A) where
     first-turn =
         let f = reseam (S .period) (laid (S .period) given) in
         let e = reseam-part (S .period) (λ (x : Face A). positions (x .first)) (laid (S .period) given) clear refl ∙ laid-first (S .period) given in
-        subst (λ (xs : List A). Turn xs (positions (joined S given .first))) e (begun-turn (S .period) (start (S .period) f) (f .first))
+        subst (λ (xs : List A). Turn xs (positions (joined S given .first))) e (begun-turn (S .period) (start (S .period) (us (f .first)) (us (f .later))) (f .first))
 
     later-turn : Turn (ring (given .later)) (positions (joined S given .later))
     unfolding joined started trial onStrip
@@ -202,7 +204,7 @@ module _ {A : Type 0} (S : Setting A) where
         let f = reseam (S .period) (laid (S .period) given) in
         let e = reseam-part (S .period) (λ (x : Face A). positions (x .later)) (laid (S .period) given) clear refl ∙ laid-later (S .period) given in
         subst (λ (xs : List A). Turn xs (positions (joined S given .later))) e
-        (aligned-turn (S .period) (firstOf (us (beginRingAt (raised (S .period)) (start (S .period) f) (f .first)))) (f .later))
+        (aligned-turn (S .period) (firstOf (us (beginRingAt (raised (S .period)) (start (S .period) (us (f .first)) (us (f .later))) (f .first)))) (f .later))
 
     pick-turn : (t : Bool) → Turn (ring (pickLoop t given)) (positions (pick t (joined S given)))
     pick-turn true = first-turn

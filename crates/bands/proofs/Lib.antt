@@ -1,5 +1,2 @@
-pub mod Carried
 pub mod Lengths
-pub mod Turning
-pub mod Decisions
 pub mod Demand

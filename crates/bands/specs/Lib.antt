@@ -1,6 +1,4 @@
-pub mod Moves
 pub mod Corners
-pub mod Choices
 pub mod Gap
 pub mod Rings
 pub mod Strip

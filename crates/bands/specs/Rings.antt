@@ -1,37 +1,18 @@
 -- What a face's two wrapping rings and its holes go through before the strip is closed. The sentences are those of 01, "Bands".
-use Prim.Native.Nat.{ℕ, zero, _-_}
-use mathlib.Core.Bool.{Bool, true, false, cond, not, _&&_, _||_}
-use mathlib.Core.List.{List, [], _∷_, _++_, map, reverse, dropLast}
-use lib.Dec.{ltb, eqb}
-use lib.Ieee.{Float, nan, lt, ne}
+use Prim.Native.Nat.{ℕ}
+use mathlib.Core.Bool.{Bool, false, cond, _&&_, _||_}
+use mathlib.Core.List.{List, [], _∷_, map, reverse}
+use lib.Ieee.{Float, nan, lt}
 use lib.Ieee.Scale.{finite}
-use lib.ListN.{length, getD}
-use Rattle.numbers.specs.Constants.{plusZero}
+use lib.ListN.{getD}
 use Rattle.numbers.specs.Rounded.{_⊕_, _⊖_}
-use Rattle.loops.specs.Rings.{begun, closed, turned}
+use Rattle.loops.specs.Rings.{begun}
 use Rattle.loops.specs.Branch.{branchShift}
 use Rattle.bands.specs.Corners.{Corner, Corners, us, moveU}
-use Rattle.bands.specs.Choices.{leastU, greatestU, firstOf, firstFrom, stripShift, straddles, firstPast, nearest, serve, beginsBackward}
+use Rattle.rings.specs.Choices.{leastU, greatestU, firstOf, stripShift, straddles, firstPast, nearest}
+use Rattle.rings.specs.Turns.{unlessZero, beginRingAt, alignAt}
+use Rattle.rings.specs.Starts.{start}
 use Rattle.bands.specs.Gap.{Gap, spanOf, widestGap, usable}
-
--- ---- one list, of corners, of u, or of anything that a corner carries
-
-module _ {A : Type 0} where
-  -- f done to all, where the step is not zero
-  unfoldable pub unlessZero : Float → (A → A) → List A → List A
-  unlessZero step f xs = cond (ne step plusZero) (map f xs) xs
-
-  -- `begin_ring_at`: begun at point k, what comes round done `again`; a ring that is to begin where it does, or of fewer than three open points, stays
-  unfoldable pub beginRingAt : (A → A) → ℕ → List A → List A
-  beginRingAt again k xs = cond (eqb k 0 || ltb (length xs) 4) xs (turned again k xs)
-
-  -- its repeated last point dropped, begun at point k, put on a branch, closed anew
-  unfoldable pub turnedOnto : (A → A) → (A → A) → ℕ → List A → List A
-  turnedOnto again put k xs = closed again (map put (begun again k (dropLast xs)))
-
-  -- `align_cuts`: a ring of fewer than three points stays
-  unfoldable pub alignAt : (A → A) → (A → A) → ℕ → List A → List A
-  alignAt again put k xs = cond (ltb (length xs) 3) xs (turnedOnto again put k xs)
 
 -- ---- a face
 
@@ -135,20 +116,5 @@ module _ (period : Float) {A : Type 0} where
       let cut = firstOf (us first) in
       record { first = first; later = slideToCut cut (alignCuts cut (face .later)); holes = face .holes }
 
-  unfoldable pub serves : Face A → ℕ → Bool
-  serves face k = let t = trial k face in serve period (us (t .first)) (us (t .later))
-
-  -- "starts k of the first ring are tried from 0": all its points but the last, which repeats the first
-  abbrev pub starts : Face A → ℕ
-  starts face = length (face .first) - 1
-
-  -- "The first k that neither begins backward nor leaves a constant-u step on the seam", and `starts` where there is none
-  unfoldable pub firstServing : Face A → ℕ
-  firstServing face = firstFrom (serves face) 0 (starts face)
-
-  -- "Only when there is none does the Rust's fallback run": past a backward first step
-  unfoldable pub start : Face A → ℕ
-  start face = let k = firstServing face in cond (ltb k (starts face)) k (cond (beginsBackward (us (face .first))) 1 0)
-
   unfoldable pub started : Face A → Face A
-  started face = trial (start face) face
+  started face = trial (start period (us (face .first)) (us (face .later))) face

@@ -14,8 +14,10 @@ use Rattle.numbers.specs.Round.{roundAway}
 use Rattle.loops.specs.Mean.{meanOf, sumOf}
 use Rattle.loops.specs.Span.{leastOf, greatestOf}
 use Rattle.bands.specs.Corners.{Corner, Corners, us, positions}
-use Rattle.bands.specs.Choices.{leastU, greatestU, nearest, firstLeast, firstFrom, serve, beginsBackward, standsAtTheCut}
-use Rattle.bands.specs.Rings.{Loop, Given, Face, unlessZero, beginRingAt, turnedOnto, alignAt, rising, shifted, laid, onStrip, anyStraddles, acrossSeam, hasStrip, reseam, alignCuts, slideToCut, trial, serves, firstServing, start, started}
+use Rattle.rings.specs.Choices.{leastU, greatestU, nearest, firstLeast, firstFrom, serve, beginsBackward, standsAtTheCut}
+use Rattle.rings.specs.Turns.{unlessZero, beginRingAt, turnedOnto, alignAt}
+use Rattle.rings.specs.Starts.{alignedU, slidU, firstFor, laterFor, serves, firstServing, start}
+use Rattle.bands.specs.Rings.{Loop, Given, Face, rising, shifted, laid, onStrip, anyStraddles, acrossSeam, hasStrip, reseam, alignCuts, slideToCut, trial, started}
 use Rattle.bands.specs.Strip.{Setting, Period, endless, every, ladder, heights, strip}
 use Rattle.bands.specs.Band.{firstIsLower, lift, joined, lowerFirst, lowerRing, upperRing, stripOf, outer}
 
@@ -91,7 +93,7 @@ tube-strip : stripOf plain tube
     ≡ corner r0 r0 10 ∷ corner r1 r0 11 ∷ corner r2 r0 12 ∷ corner r4 r0 10 ∷ corner r4 r0 10
     ∷ corner r4 r4 40 ∷ corner r4 r5 50 ∷ corner r4 r1 20 ∷ corner r4 r1 20
     ∷ corner r2 r1 22 ∷ corner r1 r1 21 ∷ corner r0 r1 20 ∷ corner r0 r5 50 ∷ corner r0 r4 40 ∷ []
-unfolding stripOf strip heights ladder lowerRing upperRing lowerFirst firstIsLower lift joined laid rising shifted leastU greatestU reseam hasStrip acrossSeam onStrip anyStraddles started start firstServing firstFrom serves serve beginsBackward standsAtTheCut trial beginRingAt alignCuts alignAt turnedOnto nearest firstLeast slideToCut unlessZero turned begun closed leastOf greatestOf meanOf sumOf absOf roundAway plain tube add sub mul div neg lt le eq ne ofBits ofInt
+unfolding stripOf strip heights ladder lowerRing upperRing lowerFirst firstIsLower lift joined laid rising shifted leastU greatestU reseam hasStrip acrossSeam onStrip anyStraddles started start firstServing firstFrom serves serve firstFor laterFor alignedU slidU beginsBackward standsAtTheCut trial beginRingAt alignCuts alignAt turnedOnto nearest firstLeast slideToCut unlessZero turned begun closed leastOf greatestOf meanOf sumOf absOf roundAway plain tube add sub mul div neg lt le eq ne ofBits ofInt
 tube-strip = refl
 
 -- the repeats are gone

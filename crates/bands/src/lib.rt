@@ -1,4 +1,2 @@
-// `wrapped_region` of face.rs for two rings: rings, seam and strip, on slices of any length. A ring
-// is five slices of one length: u, v, x, y, z.
-pub mod choices;
-pub mod moves;
+// `wrapped_region` of face.rs for two rings: rings, seam and strip. So far its meaning (specs/) and
+// demand 3 of it (proofs/), and no functions.

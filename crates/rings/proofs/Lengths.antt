@@ -1,0 +1,73 @@
+-- A ring begun elsewhere has as many points.
+use Prim.Native.Nat.{ℕ, zero, suc, _+_, _-_, _≤_, _<_, min}
+use mathlib.Core.Path.{_≡_, refl}
+use mathlib.Core.Bool.{Bool, true, false, cond, _||_}
+use mathlib.Core.List.{List, [], _∷_, map, dropLast}
+use native.Mathlib.Omega.{arith}
+use borrow.Author.Tests.{ltb-false}
+use lib.Dec.{ltb, eqb}
+use lib.Ieee.{Float, ne}
+use lib.ListN.{length, length-map, length-append, length-take, length-drop}
+use Rattle.numbers.specs.Constants.{plusZero}
+use Rattle.loops.specs.Rings.{begun, closed, turned}
+use Rattle.rings.specs.Turns.{unlessZero, beginRingAt, turnedOnto, alignAt}
+
+module _ {A : Type 0} where
+  pub length-dropLast : (xs : List A) → length (dropLast xs) ≡ length xs - 1
+  length-dropLast [] = refl
+  length-dropLast (x ∷ []) = refl
+  length-dropLast (x ∷ y ∷ xs) = let e = length-dropLast (y ∷ xs) in omega arith
+
+  pub length-if : (n : ℕ) (t : Bool) (xs ys : List A) → length xs ≡ n → length ys ≡ n → length (cond t xs ys) ≡ n
+  length-if n true xs ys d e = d
+  length-if n false xs ys d e = e
+
+  module _ (again : A → A) where
+    pub length-begun : (k : ℕ) (xs : List A) → length (begun again k xs) ≡ length xs
+    unfolding begun
+    length-begun k xs =
+        simp (length-append, length-map, length-drop, length-take) (split k (length xs))
+      where
+        split : (k n : ℕ) → n - k + min k n ≡ n
+        split k n = omega arith
+
+    pub length-closed : (xs : List A) → 0 < length xs → length (closed again xs) ≡ length xs + 1
+    unfolding closed
+    length-closed [] h = absurd (omega arith)
+    length-closed (x ∷ xs) h = length-append (x ∷ xs) (again x ∷ [])
+
+    -- one open point taken off and the closing one put on again
+    pub length-turned : (k : ℕ) (xs : List A) → 2 ≤ length xs → length (turned again k xs) ≡ length xs
+    unfolding turned
+    length-turned k xs h =
+        let b = length-begun k (dropLast xs) in
+        let d = length-dropLast xs in
+        let c = length-closed (begun again k (dropLast xs)) (omega arith) in
+        omega arith
+
+    pub length-beginRingAt : (k : ℕ) (xs : List A) → length (beginRingAt again k xs) ≡ length xs
+    unfolding beginRingAt
+    length-beginRingAt k xs = long (eqb k 0) (ltb (length xs) 4) refl
+      where
+        long : (s t : Bool) → ltb (length xs) 4 ≡ t → length (cond (s || t) xs (turned again k xs)) ≡ length xs
+        long true t e = refl
+        long false true e = refl
+        long false false e = length-turned k xs (let h = ltb-false (length xs) 4 e in omega arith)
+
+    pub length-alignAt : (put : A → A) (k : ℕ) (xs : List A) → length (alignAt again put k xs) ≡ length xs
+    unfolding alignAt turnedOnto
+    length-alignAt put k xs = long (ltb (length xs) 3) refl
+      where
+        long : (t : Bool) → ltb (length xs) 3 ≡ t → length (cond t xs (closed again (map put (begun again k (dropLast xs))))) ≡ length xs
+        long true e = refl
+        long false e =
+            let h = ltb-false (length xs) 3 e in
+            let b = length-begun k (dropLast xs) in
+            let m = length-map (begun again k (dropLast xs)) put in
+            let d = length-dropLast xs in
+            let c = length-closed (map put (begun again k (dropLast xs))) (omega arith) in
+            omega arith
+
+  pub length-unlessZero : (step : Float) (f : A → A) (xs : List A) → length (unlessZero step f xs) ≡ length xs
+  unfolding unlessZero
+  length-unlessZero step f xs = length-if (length xs) (ne step plusZero) (map f xs) xs (length-map xs f) refl

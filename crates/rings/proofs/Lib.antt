@@ -1,0 +1,4 @@
+pub mod Carried
+pub mod Lengths
+pub mod Turning
+pub mod Decisions

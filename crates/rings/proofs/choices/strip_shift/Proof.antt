@@ -1,0 +1,17 @@
+use Rattle.rings.specs.Choices.{stripShift}
+use borrow.Author.Needs.{needs}
+use Rattle.rings.proofs.choices.strip_shift.Statement.{statement}
+use Rattle.rings.proofs.choices.strip_shift.Tie as tie
+
+least-requires : tie.Need-least-requires
+least-requires c κs = search needs
+
+floor-requires : tie.Need-floor-requires
+floor-requires c κs = search needs
+
+returns : tie.Need-returns
+unfolding stripShift
+returns c = cc
+
+pub strip-shift-spec : {M : Type 1} → statement M
+strip-shift-spec = tie.close (tie.spec least-requires floor-requires returns)

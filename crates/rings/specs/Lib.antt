@@ -1,0 +1,4 @@
+pub mod Moves
+pub mod Turns
+pub mod Choices
+pub mod Starts
