@@ -32,6 +32,11 @@ pub struct Frame {
     pub reference: Vec3,
 }
 
+pub struct Interval {
+    pub lo: f64,
+    pub hi: f64,
+}
+
 impl Vec3 {
     pub fn plus(self, o: Vec3) -> Vec3
         ensures { λ r. ⌜ r ≡ plusOf self o ⌝ }
