@@ -1,2 +1,4 @@
 pub mod Laws
 pub mod Meaning
+pub mod Cast
+pub mod Count

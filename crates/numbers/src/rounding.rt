@@ -88,3 +88,16 @@ pub fn ceil(x: f64) -> f64
         x
     }
 }
+
+// Rust's `x as usize`: x without its fraction, kept to what a usize holds, and 0 for a NaN.
+pub fn as_usize(x: f64) -> usize
+    ensures { λ r. ⌜ r ≡ Ieee.toUnsigned 64 x ⌝ }
+{
+    if x > -1.0 {
+        if x < 18446744073709551616.0 {
+            return std::num::truncating_f64_to_u64(x) as usize;
+        }
+        return usize::MAX;
+    }
+    0
+}

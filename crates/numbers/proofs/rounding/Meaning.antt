@@ -113,3 +113,12 @@ ceil-above m e f = above false m e f
 pub ceil-below : (m : ℕ) (e : ℤ) → T (fits binary64 (fin true m e)) → Whole Below true m e (ceilOf (fin true m e))
 unfolding ceilOf
 ceil-below m e f = below true m e f
+
+-- the answer as a whole number, cut to none of its digits
+pub ceil-exact : (m : ℕ) (e : ℤ) → T (fits binary64 (fin false m e)) → HasValue (ceilOf (fin false m e)) false (cutUp (m * up e) (down e)) 1
+unfolding ceilOf
+ceil-exact m e f =
+    let p = cut-above (m * up e) (down e) (down-pos e) in
+    let d = down-pos e in
+    let u = p .high in
+    held false m e (cutUp (m * up e) (down e)) f (p .low) (omega arith)
