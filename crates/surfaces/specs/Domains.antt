@@ -57,7 +57,6 @@ pick false a b = b
 
 -- t = tan a: the apex is at (-R) / t, below where the cone opens upward and above where it opens downward
 unfoldable pub coneRange : Float → Float → Interval
-unfolding absOf
 coneRange R t =
     let apex = neg R ⊘ t in
     pick (lt flat (absOf t)) (pick (lt plusZero t) (between apex far) (between (neg far) apex)) unbounded

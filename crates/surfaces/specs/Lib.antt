@@ -1,2 +1,4 @@
 pub mod Points
 pub mod Domains
+pub mod Segments
+pub mod Steps

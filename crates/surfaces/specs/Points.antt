@@ -15,17 +15,14 @@ planeOf f u v = plusOf (plusOf (f .origin) (timesOf (f .reference) u)) (timesOf 
 
 -- C + r (cos u x + sin u y) + h z
 unfoldable pub raisedOf : Frame → Float → Float → Float → Vec3
-unfolding polarOf
 raisedOf f r u h = plusOf (polarOf f r u) (timesOf (f .axis) h)
 
 -- "sphere R cos v and R sin v"
 unfoldable pub sphereOf : Frame → Float → Float → Float → Vec3
-unfolding raisedOf sincosOf
 sphereOf f R u v = raisedOf f (R ⊗ sincosOf v .cos) u (R ⊗ sincosOf v .sin)
 
 -- "torus R + r cos v and r sin v"
 unfoldable pub torusOf : Frame → Float → Float → Float → Float → Vec3
-unfolding raisedOf sincosOf
 torusOf f R r u v = raisedOf f (R ⊕ r ⊗ sincosOf v .cos) u (r ⊗ sincosOf v .sin)
 
 -- "cylinder C + R(cos u x + sin u y) + v z; cone the same with R + v tan a"

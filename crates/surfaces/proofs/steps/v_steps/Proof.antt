@@ -1,0 +1,69 @@
+use Rattle.surfaces.proofs.steps.Laws as laws
+use borrow.Author.Needs.{needs}
+use Rattle.surfaces.proofs.steps.v_steps.Statement.{statement}
+use Rattle.surfaces.proofs.steps.v_steps.Tie as tie
+
+enum-told : tie.Need-enum-told
+enum-told c = search needs
+
+larger-requires : tie.Need-larger-requires
+larger-requires c κs = search needs
+
+enum-told-2 : tie.Need-enum-told-2
+enum-told-2 c = search needs
+
+larger-requires-2 : tie.Need-larger-requires-2
+larger-requires-2 c κs = search needs
+
+enum-told-3 : tie.Need-enum-told-3
+enum-told-3 c = search needs
+
+larger-requires-3 : tie.Need-larger-requires-3
+larger-requires-3 c κs = search needs
+
+enum-known-surface : tie.Need-enum-known-surface
+enum-known-surface c = search needs
+
+segments-for-arc-requires : tie.Need-segments-for-arc-requires
+segments-for-arc-requires c κs = search needs
+
+enum-known-surface-2 : tie.Need-enum-known-surface-2
+enum-known-surface-2 c = search needs
+
+segments-for-arc-requires-2 : tie.Need-segments-for-arc-requires-2
+segments-for-arc-requires-2 c κs = search needs
+
+returns : tie.Need-returns
+returns c = laws.v-steps (c .before .enum-told .given .1) _ _ _ (c .larger .ensures)
+
+returns-2 : tie.Need-returns-2
+returns-2 c = laws.v-steps (c .before .enum-told2 .given .1) _ _ _ (c .larger2 .ensures)
+
+returns-3 : tie.Need-returns-3
+returns-3 c = laws.v-steps (c .before .enum-told3 .given .1) _ _ _ (c .larger3 .ensures)
+
+returns-4 : tie.Need-returns-4
+returns-4 c = laws.v-steps (c .before .before .surface .given .1) _ _ _ (c .segments-for-arc .ensures)
+
+returns-5 : tie.Need-returns-5
+returns-5 c = laws.v-steps (c .before .before .surface2 .given .1) _ _ _ (c .segments-for-arc2 .ensures)
+
+pub v-steps-spec : {M : Type 1} → statement M
+v-steps-spec =
+    tie.close
+    (tie.spec
+    enum-told
+    larger-requires
+    enum-told-2
+    larger-requires-2
+    enum-told-3
+    larger-requires-3
+    enum-known-surface
+    segments-for-arc-requires
+    enum-known-surface-2
+    segments-for-arc-requires-2
+    returns
+    returns-2
+    returns-3
+    returns-4
+    returns-5)
