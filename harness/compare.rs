@@ -3,13 +3,19 @@
 //!
 //!     compare [--seed N] [--times N] [--only LAYER]
 
+mod branches;
 mod compared;
+mod faces;
+mod generator;
 mod items;
 mod loops;
 mod numbers;
 mod patterns;
 mod random;
+mod reference;
 mod report;
+mod shapes;
+mod values;
 
 /// The Rust, cut out of its source by `cut.rs`.
 #[allow(dead_code, unused)]
@@ -19,7 +25,11 @@ mod original {
 
 use report::Run;
 
-const LAYERS: &[(&str, fn(&Run))] = &[("numbers", numbers::compare), ("loops", loops::compare)];
+const LAYERS: &[(&str, fn(&Run))] = &[
+    ("numbers", numbers::compare),
+    ("loops", loops::compare),
+    ("generator", generator::meet_every_branch),
+];
 
 fn main() {
     let mut run = Run { seed: 1, times: 1 };
@@ -39,6 +49,7 @@ fn main() {
         }
     }
     println!("comparison: seed {}, times {}", run.seed, run.times);
+    values::hold();
     for (name, compare) in layers {
         println!("comparison: layer {name}");
         compare(&run);

@@ -1,4 +1,4 @@
-//! Cuts the functions that the port follows out of the Rust source, with the items of document
+//! Cuts the functions that the port follows out of the Rust source, with items 1 to 5 of document
 //! 01 put in, and writes them to one file.
 //!
 //!     cut SOURCE_FOLDER OUTPUT_FILE
@@ -36,10 +36,13 @@ type Files = BTreeMap<&'static str, Vec<Declaration>>;
 fn generated(folder: &str) -> Result<String, String> {
     let cuts = plan::plan();
     let mut files = Files::new();
-    for cut in &cuts {
-        if !files.contains_key(cut.file) {
-            files.insert(cut.file, read(folder, cut.file)?);
+    for file in cuts.iter().map(|c| c.file).chain(plan::REPLACED.iter().map(|r| r.0)) {
+        if !files.contains_key(file) {
+            files.insert(file, read(folder, file)?);
         }
+    }
+    for (file, name) in plan::REPLACED {
+        find(&files[file], name).map_err(|e| format!("{file}: {e}"))?;
     }
     let mut out = String::from(plan::PREAMBLE);
     for cut in &cuts {

@@ -1,5 +1,7 @@
-//! Items 1 to 3 of document 01, "Where port and Rust part", written from its words. The cut Rust
+//! Items 1 to 5 of document 01, "Where port and Rust part", written from its words. The cut Rust
 //! calls these in the place of its own.
+
+use crate::original::{Axis, Surface, Vec3};
 
 /// Item 1: FRAC_PI_2.
 pub const H: f64 = f64::from_bits(0x3FF9_21FB_5444_2D18);
@@ -92,4 +94,25 @@ impl Order for usize {
     fn greatest(self, other: usize) -> usize {
         self.max(other)
     }
+}
+
+/// Item 4: for these kinds there are no breaks.
+pub fn surface_breaks(_: &Surface, _: Axis, _lo: f64, _hi: f64) -> Vec<f64> {
+    Vec::new()
+}
+
+/// Item 4.
+pub fn thin_breaks(
+    _: &[f64],
+    _lo: f64,
+    _hi: f64,
+    _sag: f64,
+    _at: &dyn Fn(f64) -> Vec3,
+) -> Vec<f64> {
+    Vec::new()
+}
+
+/// Item 5: whether a corner repeats the one kept before it, or one at the end the first.
+pub fn repeats(corner: Vec3, kept: Vec3) -> bool {
+    corner.x == kept.x && corner.y == kept.y && corner.z == kept.z
 }

@@ -10,8 +10,13 @@ pub struct Run {
 }
 
 impl Run {
+    /// The random cases of that name.
+    pub fn random(&self, name: &str) -> Random {
+        Random::new(self.seed, name)
+    }
+
     pub fn check(&self, name: &'static str) -> Check {
-        Check { name, random: Random::new(self.seed, name), edges: 0, cases: 0 }
+        Check { name, random: self.random(name), edges: 0, cases: 0 }
     }
 }
 

@@ -14,13 +14,16 @@ pub struct Edit {
 pub enum Change {
     /// One text for another.
     Replace(&'static str, &'static str),
+    /// A statement goes that begins with this text and ends with its block.
+    DropStatement(&'static str),
     /// An arm of a `match` goes whose pattern begins with this text.
     DropArm(&'static str),
 }
 
 impl Edit {
     pub fn apply(&self, tokens: &[Token]) -> Result<Vec<Token>, String> {
-        let (Change::Replace(old, _) | Change::DropArm(old)) = self.change;
+        let (Change::Replace(old, _) | Change::DropStatement(old) | Change::DropArm(old)) =
+            self.change;
         let wanted = tokens_of(old)?;
         let mut out = Vec::new();
         let (mut at, mut found) = (0, 0);
@@ -40,6 +43,7 @@ impl Edit {
                     out.extend(put);
                     at + wanted.len()
                 }
+                Change::DropStatement(_) => statement_end(tokens, at)?,
                 Change::DropArm(_) => arm_end(tokens, at)?,
             };
         }
@@ -52,6 +56,20 @@ impl Edit {
 
 pub fn begins_with(tokens: &[Token], wanted: &[Token]) -> bool {
     tokens.len() >= wanted.len() && tokens.iter().zip(wanted).all(|(a, b)| a.text == b.text)
+}
+
+/// The place after the first block that opens outside other brackets.
+fn statement_end(tokens: &[Token], mut at: usize) -> Result<usize, String> {
+    let start = at;
+    while at < tokens.len() {
+        match tokens[at].text.as_str() {
+            "{" => return after_bracket(tokens, at),
+            "(" | "[" => at = after_bracket(tokens, at)?,
+            ")" | "]" | "}" | ";" => break,
+            _ => at += 1,
+        }
+    }
+    Err(format!("a statement has no block: {}", excerpt(tokens, start)))
 }
 
 /// The place after the arm whose pattern begins at `at`.
@@ -106,6 +124,14 @@ mod tests {
                     .starts_with("item 0")
             );
         }
+    }
+
+    #[test]
+    fn statements_go_whole() {
+        let source = "a(); if b.c({ 1 }) { d(); { e } } f();";
+        let without = edited(source, Change::DropStatement("if b."), 1).unwrap();
+        assert_eq!(without, "a(); f();");
+        assert!(edited("if b; { c }", Change::DropStatement("if b"), 1).is_err());
     }
 
     #[test]

@@ -1,4 +1,4 @@
-//! What is cut out of the Rust source, and where the items of document 01, "Where port and
+//! What is cut out of the Rust source, and where items 1 to 5 of document 01, "Where port and
 //! Rust part", are put in. The old texts below are all of that source that this repository holds.
 
 use crate::edit::{Change, Edit};
@@ -27,10 +27,26 @@ const FACE: &str = "native/crates/cad-tess/src/face.rs";
 const ITEM_1: &str = "item 1 (sin, cos, tan)";
 const ITEM_2: &str = "item 2 (acos)";
 const ITEM_3: &str = "item 3 (min, max)";
+const ITEM_5: &str = "item 5 (repeats)";
+const COUNTS: &str = "counts of the branches met";
+const ONE_RING: &str = "the one-ring branch, which refusal 9 stands before";
+const PATHS: &str = "paths to other crates";
+const SWITCHES: &str = "environment switches and prints";
 const KINDS: &str = "free-form kinds, which are left out";
 
-/// What stands before the cut text.
-pub const PREAMBLE: &str = "use crate::items::{Order, Real};\n";
+/// What stands before the cut text. Item 4 is put in here: the two functions that it speaks of are
+/// those of `items.rs`.
+pub const PREAMBLE: &str = "use crate::branches::{Branch, met, noted};
+use crate::items::{Order, Real, repeats};
+
+pub mod knots {
+    pub use super::{Axis, merge_even};
+    pub use crate::items::{surface_breaks, thin_breaks};
+}
+";
+
+/// Declarations of the source that `items.rs` stands for. They must be there all the same.
+pub const REPLACED: &[(&str, &str)] = &[(KNOTS, "fn surface_breaks"), (KNOTS, "fn thin_breaks")];
 
 /// What no cut text may still hold: functions that the items replace, environment switches, prints.
 pub const FORBIDDEN: &str = "
@@ -67,6 +83,15 @@ impl Cut {
         )
     }
 
+    /// A count is put before the text, which stays.
+    fn count(self, text: &'static str, with_count: &'static str) -> Cut {
+        self.replace(COUNTS, text, with_count, 1)
+    }
+
+    fn drop_switches(self, text: &'static str, times: usize) -> Cut {
+        self.edit(SWITCHES, Change::DropStatement(text), times)
+    }
+
     fn drop_arms(mut self, patterns: &[&'static str]) -> Cut {
         for pattern in patterns {
             self = self.edit(KINDS, Change::DropArm(pattern), 1);
@@ -79,6 +104,8 @@ pub fn plan() -> Vec<Cut> {
     let mut all = numbers();
     all.extend(surfaces());
     all.extend(loops());
+    all.extend(regions());
+    all.extend(bands());
     all
 }
 
@@ -162,5 +189,131 @@ fn loops() -> Vec<Cut> {
         cut(FACE, "fn signed_area"),
         cut(FACE, "fn mean_v"),
         cut(FACE, "fn span").order(1, 1),
+    ]
+}
+
+/// What the closed and the whole path call.
+fn regions() -> Vec<Cut> {
+    vec![
+        cut(FACE, "struct UvLoop"),
+        cut(FACE, "fn closed_region")
+            .order(2, 3)
+            .replace(ITEM_3, "f64::max", "Order::greatest", 1)
+            .count("[only] => *only", "[only] => { met(Branch::OneEncloses); *only }")
+            .count("_ => by_area()", "_ => { met(Branch::LargestArea); by_area() }"),
+        cut(FACE, "fn rephase_holes")
+            .order(1, 1)
+            .count("continue", "met(Branch::HoleStays); continue")
+            .count(
+                "for p in &mut hole.uv",
+                "noted(Branch::HoleMovedInU, shift.u != 0.0);
+                noted(Branch::HoleMovedInV, shift.v != 0.0);
+                for p in &mut hole.uv",
+            ),
+        cut(FACE, "fn full_domain_loop").replace(PATHS, "cad_ir::math::Interval", "Interval", 1),
+    ]
+}
+
+/// What the wrapped path calls besides.
+fn bands() -> Vec<Cut> {
+    vec![
+        cut(FACE, "fn align_cuts").count(
+            "r.uv.rotate_left(start)",
+            "noted(Branch::LaterRingTurned, start > 0); r.uv.rotate_left(start)",
+        ),
+        cut(FACE, "fn reseam")
+            .order(3, 3)
+            .count("if shift != 0.0", "if noted(Branch::HoleBroughtOn, shift != 0.0)")
+            .count(
+                "if !straddles(holes, u0)",
+                "if !noted(Branch::HoleAcross, straddles(holes, u0))",
+            )
+            .count(
+                "if best_gap <= 0.0 || cut <= u0 || cut >= u0 + period",
+                "if noted(Branch::NoGap, best_gap <= 0.0 || cut <= u0 || cut >= u0 + period)",
+            )
+            .count("else { continue; }", "else { met(Branch::NoPointPastCut); continue; }")
+            .count("r.uv.rotate_left(k)", "met(Branch::RingRecut); r.uv.rotate_left(k)")
+            .count(
+                "onto(holes, cut)",
+                "onto(holes, cut); noted(Branch::HoleStillAcross, straddles(holes, cut))",
+            ),
+        cut(FACE, "fn seam_segment")
+            .replace(PATHS, "crate::knots", "knots", 4)
+            .count("let inner =", "noted(Branch::WallEmpty, ladder.len() <= 2); let inner ="),
+        cut(FACE, "fn close_strip")
+            .drop_switches("if std::env::var_os(", 1)
+            .edit(ITEM_5, Change::DropStatement("if uv.last().is_some_and("), 1)
+            .replace(
+                ITEM_5,
+                "(xyz[i] - xyz[i - 1 - cut]).length_squared() <= 0.0",
+                "repeats(xyz[i], xyz[i - 1 - cut])",
+                1,
+            )
+            .replace(
+                ITEM_5,
+                "(xyz[xyz.len() - 1] - xyz[0]).length_squared() <= 0.0",
+                "repeats(xyz[xyz.len() - 1], xyz[0])",
+                1,
+            )
+            .count(
+                "let mut cut = 0",
+                "noted(Branch::FirstWallFalls, lower.uv[0].v > upper.uv[0].v); let mut cut = 0",
+            )
+            .count("cut += 1", "met(Branch::RepeatDropped); cut += 1")
+            .count("xyz.pop()", "met(Branch::TrailingRepeatDropped); xyz.pop()")
+            .count(
+                "UvLoop { area",
+                "noted(Branch::UnderThreeCorners, uv.len() < 3); UvLoop { area",
+            ),
+        cut(FACE, "fn wrapped_region")
+            .drop_switches("if std::env::var_os(", 6)
+            .drop_switches("if k > 0 && std::env::var_os(", 1)
+            .edit(ONE_RING, Change::DropArm("1 =>"), 1)
+            .replace(ITEM_3, "f64::min", "Order::least", 1)
+            .count(
+                "r.travel = r.wrap.signum()",
+                "noted(Branch::WrapsTwice, r.wrap.abs() > 1); r.travel = r.wrap.signum()",
+            )
+            .count("r.uv.reverse()", "met(Branch::RingReversed); r.uv.reverse()")
+            .count(
+                "for p in &mut r.uv",
+                "noted(Branch::RingShifted, shift != 0.0); for p in &mut r.uv",
+            )
+            .count("if slide != 0.0", "if noted(Branch::LaterRingSlid, slide != 0.0)")
+            .count(
+                "if k == 0 || open < 3",
+                "if k == 0 || noted(Branch::RingTooShortToTurn, open < 3)",
+            )
+            .count(
+                "trial[0].uv[1].u < trial[0].uv[0].u",
+                "noted(Branch::StartBackward, trial[0].uv[1].u < trial[0].uv[0].u)",
+            )
+            .count(
+                "if !stands_at_the_cut(&trial)",
+                "if !noted(Branch::StartOnSeam, stands_at_the_cut(&trial))",
+            )
+            .count("rings = trial", "noted(Branch::LaterStart, k > 0); rings = trial")
+            .count(
+                "if let Some(r) = rings.first_mut()",
+                "met(Branch::NoStart); if let Some(r) = rings.first_mut()",
+            )
+            .count(
+                "begin_ring_at(r, 1, period)",
+                "met(Branch::NoStartBackward); begin_ring_at(r, 1, period)",
+            )
+            .count(
+                "rings.sort_by(",
+                "if let [a, b] = rings.as_slice() {
+                    noted(Branch::RingsExchanged, mean_v(&b.uv) < mean_v(&a.uv));
+                    noted(Branch::EqualMeans, mean_v(&b.uv) == mean_v(&a.uv));
+                }
+                rings.sort_by(",
+            )
+            .count(
+                "std::mem::swap(&mut lower, &mut upper)",
+                "met(Branch::TorusSwapped); std::mem::swap(&mut lower, &mut upper)",
+            )
+            .count("if lifted", "if noted(Branch::TorusLifted, lifted)"),
     ]
 }

@@ -1,0 +1,54 @@
+//! How often each branch of the cut Rust was met. A comparison that never meets a branch says
+//! nothing of it, so the run fails where one was not met.
+
+use std::sync::atomic::{AtomicU64, Ordering};
+
+macro_rules! branches {
+    ($($name:ident)*) => {
+        #[derive(Clone, Copy, Debug)]
+        pub enum Branch { $($name),* }
+
+        const ALL: &[Branch] = &[$(Branch::$name),*];
+    };
+}
+
+branches! {
+    // closed_region and rephase_holes
+    OneEncloses LargestArea HoleStays HoleMovedInU HoleMovedInV
+    // wrapped_region: rings
+    RingReversed RingShifted WrapsTwice
+    // reseam
+    HoleBroughtOn HoleAcross NoGap NoPointPastCut RingRecut HoleStillAcross
+    // the start search
+    StartBackward StartOnSeam RingTooShortToTurn LaterStart NoStart NoStartBackward
+    LaterRingTurned LaterRingSlid
+    // order of the rings
+    RingsExchanged EqualMeans TorusSwapped TorusLifted
+    // close_strip
+    WallEmpty FirstWallFalls RepeatDropped TrailingRepeatDropped UnderThreeCorners
+}
+
+static MET: [AtomicU64; ALL.len()] = [const { AtomicU64::new(0) }; ALL.len()];
+
+pub fn met(branch: Branch) {
+    MET[branch as usize].fetch_add(1, Ordering::Relaxed);
+}
+
+/// Counts where the condition holds, and gives it back.
+pub fn noted(branch: Branch, holds: bool) -> bool {
+    if holds {
+        met(branch);
+    }
+    holds
+}
+
+/// Prints the counts. False where a branch was not met.
+pub fn all_met() -> bool {
+    let mut all = true;
+    for branch in ALL {
+        let times = MET[*branch as usize].load(Ordering::Relaxed);
+        println!("comparison: branch {branch:?}: met {times} times");
+        all &= times > 0;
+    }
+    all
+}
