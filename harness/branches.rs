@@ -1,7 +1,7 @@
 //! How often each branch of the cut Rust was met. A comparison that never meets a branch says
 //! nothing of it, so the run fails where one was not met.
 
-use std::sync::atomic::{AtomicU64, Ordering};
+use std::sync::atomic::{AtomicU64, AtomicUsize, Ordering};
 
 macro_rules! branches {
     ($($name:ident)*) => {
@@ -51,4 +51,16 @@ pub fn all_met() -> bool {
         all &= times > 0;
     }
     all
+}
+
+static STRIP: AtomicUsize = AtomicUsize::new(0);
+
+/// How many points a strip has before its repeats are dropped.
+pub fn strip_has(points: usize) {
+    STRIP.store(points, Ordering::Relaxed);
+}
+
+/// The points of the last strip: refusal 12 speaks of them.
+pub fn strip_points() -> usize {
+    STRIP.load(Ordering::Relaxed)
 }

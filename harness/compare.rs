@@ -12,6 +12,7 @@ mod loops;
 mod numbers;
 mod patterns;
 mod random;
+mod record;
 mod reference;
 mod report;
 mod shapes;

@@ -36,7 +36,7 @@ const KINDS: &str = "free-form kinds, which are left out";
 
 /// What stands before the cut text. Item 4 is put in here: the two functions that it speaks of are
 /// those of `items.rs`.
-pub const PREAMBLE: &str = "use crate::branches::{Branch, met, noted};
+pub const PREAMBLE: &str = "use crate::branches::{Branch, met, noted, strip_has};
 use crate::items::{Order, Real, repeats};
 
 pub mod knots {
@@ -258,7 +258,9 @@ fn bands() -> Vec<Cut> {
             )
             .count(
                 "let mut cut = 0",
-                "noted(Branch::FirstWallFalls, lower.uv[0].v > upper.uv[0].v); let mut cut = 0",
+                "noted(Branch::FirstWallFalls, lower.uv[0].v > upper.uv[0].v);
+                strip_has(xyz.len());
+                let mut cut = 0",
             )
             .count("cut += 1", "met(Branch::RepeatDropped); cut += 1")
             .count("xyz.pop()", "met(Branch::TrailingRepeatDropped); xyz.pop()")
