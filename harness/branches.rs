@@ -1,4 +1,4 @@
-//! How often each branch of the cut Rust was met. A comparison that never meets a branch says
+//! How often each branch of the cut Rust was met, and each limit of a record. A comparison that never meets a branch says
 //! nothing of it, so the run fails where one was not met.
 
 use std::sync::atomic::{AtomicU64, AtomicUsize, Ordering};
@@ -26,6 +26,8 @@ branches! {
     RingsExchanged EqualMeans TorusSwapped TorusLifted
     // close_strip
     WallEmpty FirstWallFalls RepeatDropped TrailingRepeatDropped UnderThreeCorners
+    // limits of a record, and one past them
+    SixteenLoops PointsAt512 PointsAt513 StripAt1024 StripAt1025
 }
 
 static MET: [AtomicU64; ALL.len()] = [const { AtomicU64::new(0) }; ALL.len()];

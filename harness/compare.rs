@@ -4,6 +4,7 @@
 //!     compare [--seed N] [--times N] [--only LAYER]
 
 mod branches;
+mod calls;
 mod compared;
 mod faces;
 mod generator;
@@ -29,7 +30,7 @@ use report::Run;
 const LAYERS: &[(&str, fn(&Run))] = &[
     ("numbers", numbers::compare),
     ("loops", loops::compare),
-    ("generator", generator::meet_every_branch),
+    ("generator", generator::meet_everything),
 ];
 
 fn main() {
@@ -55,5 +56,5 @@ fn main() {
         println!("comparison: layer {name}");
         compare(&run);
     }
-    println!("comparison: all equal");
+    println!("comparison: done, no difference");
 }

@@ -1,14 +1,25 @@
-//! Whether the generated faces meet every path and every branch of the cut Rust. Nothing is
-//! compared here.
+//! Whether the generated faces and records meet every path and every branch of the cut Rust, and
+//! every refusal. Nothing is compared here.
 
 use crate::branches::all_met;
+use crate::calls::call;
 use crate::faces::{band, patch, whole};
+use crate::record::{Answer, judge};
 use crate::reference::{Path, close};
 use crate::report::Run;
 
 const FACES: u64 = 200_000;
 
-pub fn meet_every_branch(run: &Run) {
+pub fn meet_everything(run: &Run) {
+    meet_paths(run);
+    meet_refusals(run);
+    if !all_met() {
+        println!("comparison: a branch or a limit was not met");
+        std::process::exit(1);
+    }
+}
+
+fn meet_paths(run: &Run) {
     let mut random = run.random("faces");
     let mut met = [0u64; 3];
     let (mut refused, mut most) = (0u64, 0);
@@ -35,8 +46,27 @@ pub fn meet_every_branch(run: &Run) {
         of(Path::Wrapped),
         of(Path::Whole),
     );
-    if !all_met() || met.contains(&0) {
-        println!("comparison: the generated faces leave a path or a branch of the Rust out");
+    if met.contains(&0) {
+        println!("comparison: the generated faces leave a path out");
+        std::process::exit(1);
+    }
+}
+
+fn meet_refusals(run: &Run) {
+    let mut random = run.random("calls");
+    let mut met = [0u64; 13];
+    for _ in 0..run.times * FACES {
+        let call = call(&mut random);
+        match judge(call.lent, &call.record) {
+            Answer::Closed(_) => met[0] += 1,
+            Answer::Refused { number, .. } => met[number as usize] += 1,
+        }
+    }
+    println!(
+        "comparison: of the generated records so many are closed, and refused by 1 to 12: {met:?}"
+    );
+    if met.contains(&0) {
+        println!("comparison: the generated records leave a refusal out");
         std::process::exit(1);
     }
 }

@@ -1,7 +1,7 @@
 //! The face record and the result record of document 01, and its refusals in their order: what
 //! the whole call must answer, worked out by the cut Rust.
 
-use crate::branches::strip_points;
+use crate::branches::{Branch, noted, strip_points};
 use crate::faces::{Face, Loop};
 use crate::original::{UvLoop, Vec2, Vec3};
 use crate::reference::{Path, close, loops_of};
@@ -80,9 +80,15 @@ fn closed(lent: usize, record: &[u8]) -> Result<Vec<u8>, Answer> {
     let face = face(record, &counts, &reals);
     which_wrap(&face)?;
     let closing = close(&face).expect("a face that no earlier condition refuses is closed");
-    if closing.path == Path::Wrapped && strip_points() > 1024 {
-        refused(12, strip_points())?;
+    if closing.path == Path::Wrapped {
+        noted(Branch::StripAt1024, strip_points() == 1024);
+        noted(Branch::StripAt1025, strip_points() == 1025);
+        if strip_points() > 1024 {
+            refused(12, strip_points())?;
+        }
     }
+    noted(Branch::SixteenLoops, counts.len() == 16);
+    noted(Branch::PointsAt512, counts.iter().sum::<usize>() == 512);
     let loops: Vec<&UvLoop> = std::iter::once(&closing.outer).chain(&closing.holes).collect();
     Ok(result_record(closing.path, &loops))
 }
@@ -119,6 +125,7 @@ fn counts(record: &[u8]) -> Result<Vec<usize>, Answer> {
     for (i, n) in counts.iter().enumerate() {
         total += n;
         if total > 512 {
+            noted(Branch::PointsAt513, total == 513);
             refused(5, i)?;
         }
     }
