@@ -1,5 +1,9 @@
 pub mod Folds
 pub mod Maps
-pub mod Fill
+pub mod Mapping
 pub mod InPlace
 pub mod Parts
+pub mod Elements
+pub mod Filling
+pub mod Placed
+pub mod Places

@@ -7,3 +7,4 @@ pub mod RingLaw
 pub mod StripLaw
 pub mod Projections
 pub mod SamePosition
+pub mod Trailing

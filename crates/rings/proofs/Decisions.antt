@@ -12,7 +12,7 @@ use lib.ListN.{length, getD, drop, length-map, length-drop}
 use lib.Seq.{drop-cons}
 use Rattle.numbers.specs.Rounded.{_⊕_, _⊖_}
 use Rattle.loops.specs.Span.{leastOf, greatestOf}
-use Rattle.lists.proofs.Fill.{getD-map}
+use Rattle.lists.proofs.Elements.{getD-map}
 use Rattle.rings.specs.Choices.{slack, firstFrom, firstLeast, firstPast, beginsBackward, straddles, offset, nearest, stepStands, standsAtTheCut, serve, firstOf}
 use Rattle.rings.proofs.Lengths.{length-dropLast}
 
@@ -94,7 +94,7 @@ module _ (period cut : Float) (us : List Float) where
   offset-at : (i : ℕ) → i < length us - 1 → getD offsets i nan ≡ offset period cut (getD us i nan)
   offset-at i h =
       let l : i < length (dropLast us) = let d = length-dropLast us in omega arith in
-      getD-map nan nan (offset period cut) (dropLast us) i l ∙ ap (offset period cut) (getD-dropLast us i h)
+      getD-map (offset period cut) (dropLast us) i nan nan l ∙ ap (offset period cut) (getD-dropLast us i h)
 
   pub record Nearing (best : ℕ) (low : Float) (i : ℕ) : Type 0 where
     pub far : i ≤ length us - 1
