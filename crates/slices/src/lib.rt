@@ -1,14 +1,12 @@
 // Passes over one slice of reals, for slices of any length. What does not fit is not written: each
 // contract says by `placed` that nothing changes then.
 ghost use mathlib.Core.Path.{_≡_};
-ghost use mathlib.Core.List.{map, reverse};
+ghost use mathlib.Core.List.{reverse};
 ghost use Prim.Native.Nat.{_+_};
 ghost use lib.Dec.{leb};
 ghost use lib.Ieee.{nan};
 ghost use lib.ListN.{length, getD, set, replicate};
 ghost use Rattle.lists.specs.Placed.{placed};
-ghost use Rattle.loops.specs.Rings.{unchanged};
-ghost use Rattle.slices.specs.Passes.{plus, minus, turnedInto};
 
 // The element at i, and a NaN past the end: a read that asks nothing.
 pub fn at(s: &[f64], i: usize) -> f64
@@ -54,21 +52,6 @@ pub fn copy_into(dst: &mut [f64], from: usize, src: &[f64])
     }
 }
 
-// src with s added to each element into dst, from `from` on.
-pub fn add_into(dst: &mut [f64], from: usize, src: &[f64], s: f64)
-    ensures { λ _. ⌜ now (dst .exit) ≡ placed from (map (plus s) (now (src .entry))) (now (dst .entry)) ⌝ }
-{
-    let n = src.len();
-    if !has_room(dst.len(), from, n) {
-        return;
-    }
-    let mut i = 0;
-    while i < n {
-        dst[from + i] = src[i] + s;
-        i += 1;
-    }
-}
-
 // src backward into dst, from `from` on.
 pub fn reverse_into(dst: &mut [f64], from: usize, src: &[f64])
     ensures { λ _. ⌜ now (dst .exit) ≡ placed from (reverse (now (src .entry))) (now (dst .entry)) ⌝ }
@@ -96,66 +79,4 @@ pub fn fill(dst: &mut [f64], from: usize, n: usize, x: f64)
         dst[from + i] = x;
         i += 1;
     }
-}
-
-// Adds s to each element.
-pub fn add_to_each(a: &mut [f64], s: f64)
-    ensures { λ _. ⌜ now (a .exit) ≡ map (plus s) (now (a .entry)) ⌝ }
-{
-    let mut i = 0;
-    while i < a.len() {
-        a[i] = a[i] + s;
-        i += 1;
-    }
-}
-
-// Subtracts s from each element.
-pub fn subtract_from_each(a: &mut [f64], s: f64)
-    ensures { λ _. ⌜ now (a .exit) ≡ map (minus s) (now (a .entry)) ⌝ }
-{
-    let mut i = 0;
-    while i < a.len() {
-        a[i] = a[i] - s;
-        i += 1;
-    }
-}
-
-// A ring's u begun at point k: what comes round rises by the period.
-pub fn turn_u(dst: &mut [f64], ring: &[f64], k: usize, period: f64)
-    ensures { λ _. ⌜ now (dst .exit) ≡ turnedInto (plus period) k (now (ring .entry)) (now (dst .entry)) ⌝ }
-{
-    let n = ring.len();
-    if n <= k {
-        return;
-    }
-    let last = n - 1;
-    if last <= k {
-        return;
-    }
-    if dst.len() < n {
-        return;
-    }
-    copy_into(dst, 0, &ring[k..last]);
-    add_into(dst, last - k, &ring[0..k], period);
-    put(dst, last, ring[k] + period);
-}
-
-// The same of what a ring's points carry unchanged.
-pub fn turn(dst: &mut [f64], ring: &[f64], k: usize)
-    ensures { λ _. ⌜ now (dst .exit) ≡ turnedInto unchanged k (now (ring .entry)) (now (dst .entry)) ⌝ }
-{
-    let n = ring.len();
-    if n <= k {
-        return;
-    }
-    let last = n - 1;
-    if last <= k {
-        return;
-    }
-    if dst.len() < n {
-        return;
-    }
-    copy_into(dst, 0, &ring[k..last]);
-    copy_into(dst, last - k, &ring[0..k]);
-    put(dst, last, ring[k]);
 }
