@@ -24,7 +24,8 @@ use Rattle.rings.specs.Choices.{firstOf, nearest}
 use Rattle.rings.specs.Turns.{unlessZero, beginRingAt, turnedOnto, alignAt}
 use Rattle.rings.specs.Starts.{start}
 use Rattle.rings.proofs.Carried.{map-cond, map-unlessZero, map-beginRingAt, map-alignAt}
-use Rattle.bands.specs.Rings.{Loop, Given, Face, rising, shifted, laid, raised, seam, onto, onStrip, acrossSeam, gapOf, cutAnew, hasStrip, hasGap, reseam, alignCuts, slideToCut, trial, started}
+use Rattle.bands.specs.Given.{Loop, Given}
+use Rattle.bands.specs.Rings.{Face, rising, shifted, laid, raised, seam, onto, onStrip, acrossSeam, gapOf, cutAnew, hasStrip, hasGap, reseam, alignCuts, slideToCut, trial, started}
 use Rattle.bands.specs.Strip.{Setting, heights, wall, strip}
 use Rattle.bands.specs.Band.{pick, pickLoop, joined, lowerFirst, lower, upper, lowerRing, upperRing, stripOf, outer, holes}
 use Rattle.bands.specs.Demand.{ring, Turn, Demand3}

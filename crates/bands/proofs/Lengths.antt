@@ -12,7 +12,8 @@ use Rattle.rings.specs.Turns.{beginRingAt}
 use Rattle.rings.specs.Starts.{start}
 use Rattle.rings.proofs.Lengths.{length-if, length-begun, length-beginRingAt, length-alignAt, length-unlessZero}
 use Rattle.bands.specs.Corners.{Corners, us, moveU}
-use Rattle.bands.specs.Rings.{Loop, Given, Face, rising, raised, lessU, shifted, laid, recut, onStrip, cutAnew, hasStrip, acrossSeam, hasGap, reseam, alignCuts, slideToCut, trial, started}
+use Rattle.bands.specs.Given.{Loop, Given}
+use Rattle.bands.specs.Rings.{Face, rising, raised, lessU, shifted, laid, recut, onStrip, cutAnew, hasStrip, acrossSeam, hasGap, reseam, alignCuts, slideToCut, trial, started}
 
 module _ {A : Type 0} where
   pub length-rising : (l : Loop A) → length (rising l) ≡ length (l .corners)

@@ -6,7 +6,8 @@ use Rattle.numbers.specs.Rounded.{_⊕_}
 use Rattle.loops.specs.Repeats.{dropMerging, dropRepeats}
 use Rattle.loops.specs.Mean.{meanOf}
 use Rattle.bands.specs.Corners.{Corner, Corners, vs, moveV}
-use Rattle.bands.specs.Rings.{Loop, Given, Face, laid, reseam, started}
+use Rattle.bands.specs.Given.{Loop, Given}
+use Rattle.bands.specs.Rings.{Face, laid, reseam, started}
 use Rattle.bands.specs.Strip.{Period, endless, every, Setting, strip}
 
 -- "Rings are ordered by mean v, equals as they stand; the torus swaps": whether the first ring is the lower one. `with₁` and `with₂` say whether the first

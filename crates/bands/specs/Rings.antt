@@ -12,20 +12,8 @@ use Rattle.bands.specs.Corners.{Corner, Corners, us, moveU}
 use Rattle.rings.specs.Choices.{leastU, greatestU, firstOf, stripShift, straddles, firstPast, nearest}
 use Rattle.rings.specs.Turns.{unlessZero, beginRingAt, alignAt}
 use Rattle.rings.specs.Starts.{start}
+use Rattle.bands.specs.Given.{Loop, Given}
 use Rattle.bands.specs.Gap.{Gap, spanOf, widestGap, usable}
-
--- ---- a face
-
--- a loop as the face record gives it, and whether its travel is negative
-pub record Loop (A : Type 0) : Type 0 where
-  pub corners : Corners A
-  pub falls : Bool
-
--- a face with two wrapping loops: "Rings are taken last wrapping loop first", and that one is `first`
-pub record Given (A : Type 0) : Type 0 where
-  pub first : Loop A
-  pub later : Loop A
-  pub holes : List (Corners A)
 
 -- the rings and the holes on their way
 pub record Face (A : Type 0) : Type 0 where

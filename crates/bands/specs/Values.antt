@@ -10,14 +10,15 @@ use Rattle.loops.specs.Steps.{net, netOf, count, stepsRound, stepsAlong}
 use Rattle.loops.specs.Rings.{endsMeet, begun, closed, turned}
 use Rattle.loops.specs.Repeats.{dropMerging, dropRepeats, dropSuccessive, dropTrailing, keptFrom, cutBack}
 use Rattle.numbers.specs.Order.{absOf}
-use Rattle.numbers.specs.Round.{roundAway}
+use Rattle.numbers.specs.Round.{roundAway, floorOf}
 use Rattle.loops.specs.Mean.{meanOf, sumOf}
 use Rattle.loops.specs.Span.{leastOf, greatestOf}
-use Rattle.bands.specs.Corners.{Corner, Corners, us, positions}
-use Rattle.rings.specs.Choices.{leastU, greatestU, nearest, firstLeast, firstFrom, serve, beginsBackward, standsAtTheCut}
+use Rattle.bands.specs.Corners.{Corner, Corners, us, vs, positions}
+use Rattle.rings.specs.Choices.{leastU, greatestU, stripShift, straddles, nearest, firstLeast, firstFrom, serve, beginsBackward, standsAtTheCut}
 use Rattle.rings.specs.Turns.{unlessZero, beginRingAt, turnedOnto, alignAt}
 use Rattle.rings.specs.Starts.{alignedU, slidU, firstFor, laterFor, serves, firstServing, start}
-use Rattle.bands.specs.Rings.{Loop, Given, Face, rising, shifted, laid, onStrip, anyStraddles, acrossSeam, hasStrip, reseam, alignCuts, slideToCut, trial, started}
+use Rattle.bands.specs.Given.{Measured, Loop, Given, only, givenOf}
+use Rattle.bands.specs.Rings.{Face, rising, shifted, laid, onto, onStrip, anyStraddles, acrossSeam, hasStrip, reseam, alignCuts, slideToCut, trial, started}
 use Rattle.bands.specs.Strip.{Setting, Period, endless, every, ladder, heights, strip}
 use Rattle.bands.specs.Band.{firstIsLower, lift, joined, lowerFirst, lowerRing, upperRing, stripOf, outer}
 
@@ -62,15 +63,22 @@ first-of-equals = refl
 
 -- ---- a band: a cylinder between v 0 and v 1, period 4, each ring three steps round and its first point again. The upper loop runs backward in the file.
 
-lowLoop : Loop ℕ
-lowLoop = record { corners = corner r0 r0 10 ∷ corner r1 r0 11 ∷ corner r2 r0 12 ∷ corner r4 r0 10 ∷ []; falls = false }
+lowLoop : Measured ℕ
+lowLoop = record { corners = corner r0 r0 10 ∷ corner r1 r0 11 ∷ corner r2 r0 12 ∷ corner r4 r0 10 ∷ []; wrap = pos 1 }
 
-highLoop : Loop ℕ
-highLoop = record { corners = corner r4 r1 20 ∷ corner r2 r1 22 ∷ corner r1 r1 21 ∷ corner r0 r1 20 ∷ []; falls = true }
+highLoop : Measured ℕ
+highLoop = record { corners = corner r4 r1 20 ∷ corner r2 r1 22 ∷ corner r1 r1 21 ∷ corner r0 r1 20 ∷ []; wrap = negsuc 0 }
+
+bore : Measured ℕ
+bore = record { corners = corner r1 r0 31 ∷ corner r2 r0 32 ∷ corner r2 r1 33 ∷ []; wrap = pos 0 }
 
 tube : Given ℕ
-unfolding lowLoop highLoop
-tube = record { first = highLoop; later = lowLoop; holes = [] }
+tube = givenOf (lowLoop ∷ bore ∷ highLoop ∷ [])
+
+-- the last wrapping loop is the first ring
+last-first : positions (tube .first .corners) ≡ 20 ∷ 22 ∷ 21 ∷ 20 ∷ []
+unfolding tube givenOf only lowLoop highLoop bore
+last-first = refl
 
 -- two rungs between the rings, 40 and 50 at r4 and r5
 plain : Setting ℕ
@@ -93,7 +101,7 @@ tube-strip : stripOf plain tube
     ≡ corner r0 r0 10 ∷ corner r1 r0 11 ∷ corner r2 r0 12 ∷ corner r4 r0 10 ∷ corner r4 r0 10
     ∷ corner r4 r4 40 ∷ corner r4 r5 50 ∷ corner r4 r1 20 ∷ corner r4 r1 20
     ∷ corner r2 r1 22 ∷ corner r1 r1 21 ∷ corner r0 r1 20 ∷ corner r0 r5 50 ∷ corner r0 r4 40 ∷ []
-unfolding stripOf strip heights ladder lowerRing upperRing lowerFirst firstIsLower lift joined laid rising shifted leastU greatestU reseam hasStrip acrossSeam onStrip anyStraddles started start firstServing firstFrom serves serve firstFor laterFor alignedU slidU beginsBackward standsAtTheCut trial beginRingAt alignCuts alignAt turnedOnto nearest firstLeast slideToCut unlessZero turned begun closed leastOf greatestOf meanOf sumOf absOf roundAway plain tube add sub mul div neg lt le eq ne ofBits ofInt
+unfolding stripOf strip heights ladder lowerRing upperRing lowerFirst firstIsLower lift joined laid rising shifted leastU greatestU reseam hasStrip acrossSeam onStrip anyStraddles started start firstServing firstFrom serves serve firstFor laterFor alignedU slidU beginsBackward standsAtTheCut trial beginRingAt alignCuts alignAt turnedOnto nearest firstLeast slideToCut unlessZero turned begun closed leastOf greatestOf meanOf sumOf absOf roundAway plain tube givenOf only lowLoop highLoop bore onto stripShift straddles floorOf add sub mul div neg lt le eq ne ofBits ofInt
 tube-strip = refl
 
 -- the repeats are gone
@@ -103,11 +111,11 @@ tube-outer = ap (λ (s : Corners ℕ). positions (dropRepeats (λ (a b : Corner 
 
 -- no hole is across, the ends meet, 10 to 11 is one step of the lower ring, and 21 to 22 one of the upper ring read backward
 tube-clear : acrossSeam (plain .period) (laid (plain .period) tube) ≡ false
-unfolding plain tube acrossSeam onStrip anyStraddles laid
+unfolding plain tube givenOf only lowLoop highLoop bore acrossSeam onStrip anyStraddles onto unlessZero stripShift straddles laid rising shifted leastU leastOf greatestOf roundAway floorOf add sub mul div neg lt ne ofBits
 tube-clear = refl
 
 tube-meets : endsMeet (plain .same) (positions (tube .first .corners)) ≡ true
-unfolding plain tube endsMeet
+unfolding plain tube givenOf only lowLoop highLoop bore endsMeet
 tube-meets = refl
 
 tube-steps : net eqb 10 11 (positions (outer plain tube)) ≡ pos 1
@@ -118,7 +126,14 @@ tube-steps-upper : net eqb 21 22 (positions (outer plain tube)) ≡ negsuc 0
 unfolding net netOf count stepsRound stepsAlong
 tube-steps-upper = ap (net eqb 21 22) tube-outer
 
--- ---- which ring is lower: of equal means the first, and on a torus the one that goes with the face
+-- ---- the later ring is slid to the cut
+
+offset-trial : us (trial r4 0 (record { first = corner r0 r0 A ∷ corner r1 r0 B ∷ corner r2 r0 C ∷ corner r4 r0 A ∷ []; later = corner r1 r0 A ∷ corner r2 r0 B ∷ corner r3 r0 C ∷ corner r5 r0 A ∷ []; holes = [] }) .later)
+    ≡ r0 ∷ r1 ∷ r2 ∷ r4 ∷ []
+unfolding trial beginRingAt alignCuts alignAt turnedOnto nearest firstLeast slideToCut unlessZero begun closed absOf roundAway add sub mul div neg lt ne ofBits
+offset-trial = refl
+
+-- ---- which ring is lower: of equal means the first, and on a torus the one that goes with the face, to which the other is lifted
 
 tie-of-means : firstIsLower endless true false r1 r1 ≡ true
 unfolding firstIsLower lt
@@ -127,3 +142,21 @@ tie-of-means = refl
 swapped : firstIsLower (every r4) false true r1 r2 ≡ false
 unfolding firstIsLower lt
 swapped = refl
+
+ring-torus : Setting ℕ
+ring-torus = record { period = r4; vPeriod = every r4; sense = true; same = eqb; pointAt = λ u v. 0; rungs = λ lo hi n. lo ∷ hi ∷ []; steps = λ lo hi. 1 }
+
+high-rising : Given ℕ
+high-rising = record {
+  first = record { corners = corner r0 r2 10 ∷ corner r1 r2 11 ∷ corner r4 r2 10 ∷ []; falls = false };
+  later = record { corners = corner r4 r1 20 ∷ corner r1 r1 21 ∷ corner r0 r1 20 ∷ []; falls = true };
+  holes = [];
+}
+
+torus-lower : vs (lowerRing ring-torus high-rising) ≡ r2 ∷ r2 ∷ r2 ∷ []
+unfolding stripOf strip heights ladder lowerRing upperRing lowerFirst firstIsLower lift joined laid rising shifted leastU greatestU reseam hasStrip acrossSeam onStrip anyStraddles started start firstServing firstFrom serves serve firstFor laterFor alignedU slidU beginsBackward standsAtTheCut trial beginRingAt alignCuts alignAt turnedOnto nearest firstLeast slideToCut unlessZero turned begun closed leastOf greatestOf meanOf sumOf absOf roundAway ring-torus high-rising onto stripShift straddles floorOf add sub mul div neg lt le eq ne ofBits ofInt
+torus-lower = refl
+
+torus-upper : vs (upperRing ring-torus high-rising) ≡ r5 ∷ r5 ∷ r5 ∷ []
+unfolding stripOf strip heights ladder lowerRing upperRing lowerFirst firstIsLower lift joined laid rising shifted leastU greatestU reseam hasStrip acrossSeam onStrip anyStraddles started start firstServing firstFrom serves serve firstFor laterFor alignedU slidU beginsBackward standsAtTheCut trial beginRingAt alignCuts alignAt turnedOnto nearest firstLeast slideToCut unlessZero turned begun closed leastOf greatestOf meanOf sumOf absOf roundAway ring-torus high-rising onto stripShift straddles floorOf add sub mul div neg lt le eq ne ofBits ofInt
+torus-upper = refl

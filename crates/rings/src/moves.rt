@@ -110,10 +110,10 @@ fn turn(s: &mut [f64], k: usize, again: Move, put: Move)
     requires { ⌜ 2 ≤ length (now s) ⌝ }
     ensures { λ _. ⌜ now (s .exit) ≡ turnedOnto (movedBy again) (movedBy put) k (now (s .entry)) ⌝ }
 {
-    let open = s.len() - 1;
-    begin_part(s, open, k, again);
-    move_part(s, 0, open, put);
-    s[open] = moved(s[0], again);
+    let points = s.len() - 1;
+    begin_part(s, points, k, again);
+    move_part(s, 0, points, put);
+    s[points] = moved(s[0], again);
 }
 
 pub fn begin_ring_at(s: &mut [f64], k: usize, again: Move)

@@ -6,8 +6,8 @@ use borrow.Author.Needs.{needs}
 use Rattle.rings.proofs.moves.turn.Statement.{statement}
 use Rattle.rings.proofs.moves.turn.Tie as tie
 
-sub-open : tie.Need-sub-open
-sub-open c = search needs
+sub-points : tie.Need-sub-points
+sub-points c = search needs
 
 begin-part-requires : tie.Need-begin-part-requires
 begin-part-requires c κs = search needs
@@ -39,7 +39,7 @@ pub turn-spec : {M : Type 1} → statement M
 turn-spec =
     tie.close
     (tie.spec
-    sub-open
+    sub-points
     begin-part-requires
     move-part-requires
     slice-read-moved
