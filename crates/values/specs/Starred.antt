@@ -13,10 +13,22 @@ use Rattle.numbers.specs.Trig.{sincosOf}
 use Rattle.loops.specs.Area.{areaOf, crossSum, crossAt}
 use Rattle.loops.specs.Branch.{nearestBranch}
 use Rattle.loops.specs.Wrap.{netWrap, turnsCounted}
+use Rattle.loops.specs.Rings.{begun, closed}
+use Rattle.rings.specs.Choices.{nearest, firstLeast}
+use Rattle.rings.specs.Turns.{turnedOnto, alignAt}
+use Rattle.bands.specs.Corners.{Corner}
+use Rattle.bands.specs.Rings.{alignCuts}
 
 -- a loop that travels so far in u
 abbrev travels : Float → List Float
 travels far = count 0 ∷ far ∷ []
+
+-- a ring's corner, at v 0, with a letter for its position
+pub data Letter : Type 0 where
+  A B C D : Letter
+
+abbrev at : Float → Letter → Corner Letter
+at u p = record { u = u; v = count 0; at = p }
 
 pub record Starred : Type 0 where
   -- round: 0.5 to 1; -0.5 to -1; 2.5 to 3; -0.25 to -0. floor(-0.5) = -1
@@ -45,9 +57,11 @@ pub record Starred : Type 0 where
   -- corners (0,0), (4,0), (0,3): area 6; reversed -6
   pub area : areaOf (count 0 ∷ count 4 ∷ count 0 ∷ []) (count 0 ∷ count 0 ∷ count 3 ∷ []) ≡ count 6
   pub area-reversed : areaOf (count 0 ∷ count 4 ∷ count 0 ∷ []) (count 3 ∷ count 0 ∷ count 0 ∷ []) ≡ neg (count 6)
+  -- period 4, cut 0, ring u 1, 2, 3, 4, 5, positions A B C D A: becomes u 0, 1, 2, 3, 4, D A B C D
+  pub ring : alignCuts (count 4) (count 0) (at (count 1) A ∷ at (count 2) B ∷ at (count 3) C ∷ at (count 4) D ∷ at (count 5) A ∷ []) ≡ at (count 0) D ∷ at (count 1) A ∷ at (count 2) B ∷ at (count 3) C ∷ at (count 4) D ∷ []
 
 pub starred : Starred
-unfolding roundAway floorOf absOf sqrtOf sincosOf nearestBranch netWrap turnsCounted areaOf crossSum crossAt add sub mul div neg lt le eq ofBits toBits ofInt toSigned
+unfolding roundAway floorOf absOf sqrtOf sincosOf nearestBranch netWrap turnsCounted areaOf crossSum crossAt alignCuts alignAt turnedOnto nearest firstLeast begun closed add sub mul div neg lt le eq ofBits toBits ofInt toSigned
 starred =
     record {
       round-half = refl;
@@ -70,4 +84,5 @@ starred =
       wraps-minus-8 = refl;
       area = refl;
       area-reversed = refl;
+      ring = refl;
     }
