@@ -1,0 +1,1 @@
+// The face record and the result record as bytes.
