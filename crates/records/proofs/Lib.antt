@@ -1,7 +1,10 @@
+pub mod Numbers
 pub mod Search
+pub mod Counting
 pub mod Refused
 pub mod Rows
 pub mod Ranges
+pub mod Reals
 pub mod Accepted
 pub mod RoundTrip
-pub mod Loops
+pub mod Pieces

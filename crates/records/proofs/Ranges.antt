@@ -50,3 +50,11 @@ and-left false b e = e
 pub holds-finite : (r : Range) (x : Float) → holds r x ≡ true → finite x ≡ true
 unfolding holds
 holds-finite (a to b) x e = and-left (finite x) (le a x && le x b) e
+
+-- ---- what the code finds, where its two comparisons are known
+
+pub within : (R : Range) (a b x : Float) (r : Bool) → R ≡ (a to b) → finite a ≡ true → finite b ≡ true → r ≡ (le a x && le x b) → r ≡ holds R x
+within R a b x r e p q h = h ∙ bounded a b x p q ∙ ap (λ (z : Range). holds z x) (sym e)
+
+pub held : (R Q : Range) (x : Float) (r : Bool) → R ≡ Q → r ≡ holds Q x → r ≡ holds R x
+held R Q x r e h = h ∙ ap (λ (z : Range). holds z x) (sym e)

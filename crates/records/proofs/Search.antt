@@ -6,6 +6,9 @@ use Prim.Native.Nat.{ℕ, zero, suc, _+_, _-_, _≤_, _<_}
 use native.Mathlib.Nat.{eq-or-lt-of-le, add-zero, add-suc}
 use native.Mathlib.Numerals.{add-one}
 use native.Mathlib.Omega.{arith}
+use Rattle.records.specs.declared.check.Place.{Place as Found}
+use Rattle.records.specs.declared.check.Place.the-variants.{Nowhere, At}
+use Rattle.records.specs.Answers.{placeOf}
 use Rattle.records.specs.Refusals.{Place, nowhere, at, when, firstFrom, firstWhere}
 
 pub nowhere≢at : {p : ℕ} → nowhere ≡ at p → ⊥
@@ -172,3 +175,11 @@ module _ (test : ℕ → Bool) (n : ℕ) where
     pub seek-end : n ≤ k → nowhere ≡ firstWhere n test
     unfolding firstFrom
     seek-end h = let e : n - k ≡ 0 = omega arith in sym (s .is ∙ rw e)
+
+-- ---- an answer of the code, where a match has told which it is
+
+pub not-found : (r : Found) (p : Place) → placeOf r ≡ p → r ≡ Nowhere → p ≡ nowhere
+not-found r p e f = sym e ∙ ap placeOf f
+
+pub found : (r : Found) (p : Place) (k : ℕ) → placeOf r ≡ p → r ≡ At k → p ≡ at k
+found r p k e f = sym e ∙ ap placeOf f

@@ -5,3 +5,5 @@ pub mod Refusals
 pub mod Accepted
 pub mod Result
 pub mod Call
+pub mod Parts
+pub mod Answers

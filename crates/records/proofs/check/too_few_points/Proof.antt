@@ -1,0 +1,55 @@
+use native.Mathlib.Omega.{arith}
+use mathlib.Core.Path.{_≡_}
+use Prim.Native.Nat.{_-_, _<_}
+use Rattle.records.specs.Face.{loops}
+use Rattle.records.proofs.Search.{Seeking, seek-start}
+use Rattle.records.proofs.Counting as counting
+use borrow.Author.Needs.{needs}
+use Rattle.records.proofs.check.too_few_points.Statement.{statement}
+use Rattle.records.proofs.check.too_few_points.Tie as tie
+
+abbrev Inv-loop : tie.InvT-loop
+Inv-loop face l k₀ k = Seeking (counting.fewAt face) (loops face) k × ((l ≡ loops face) × (l < 256))
+
+abbrev μ-loop : tie.MeasureT-loop
+μ-loop face l k₀ k = l - k
+
+loops-requires : tie.Need-loops-requires Inv-loop μ-loop
+loops-requires c κs = search needs
+
+loop-holds : tie.Need-loop-holds Inv-loop μ-loop
+loop-holds c = (seek-start _ _, c .loops .ensures)
+
+count-at-requires : tie.Need-count-at-requires Inv-loop μ-loop
+count-at-requires c κs = search needs
+
+returns : tie.Need-returns Inv-loop μ-loop
+returns c = counting.few-found _ _ (c .before .before .before .loop .inv .0) _ (omega arith) (c .before .count-at .ensures .0) (c .if1 .taken)
+
+add-k : tie.Need-add-k Inv-loop μ-loop
+add-k c = omega arith
+
+loop-less : tie.Need-loop-less Inv-loop μ-loop
+loop-less c = omega arith
+
+loop-again : tie.Need-loop-again Inv-loop μ-loop
+loop-again c =
+    (counting.few-turn _ _ (c .before .before .before .loop .inv .0) _ (omega arith) (c .before .count-at .ensures .0) (c .if1 .left), c .before .before .before .loop .inv .1)
+
+returns-2 : tie.Need-returns-2 Inv-loop μ-loop
+returns-2 c = counting.few-end _ _ (c .before .loop .inv .0) (omega arith)
+
+pub too-few-points-spec : {M : Type 1} → statement M
+too-few-points-spec =
+    tie.close
+    (tie.spec
+    Inv-loop
+    μ-loop
+    loops-requires
+    loop-holds
+    count-at-requires
+    returns
+    add-k
+    loop-less
+    loop-again
+    returns-2)

@@ -1,0 +1,58 @@
+use native.Mathlib.Omega.{arith}
+use mathlib.Core.Path.{_≡_}
+use Prim.Native.Nat.{_-_, _<_}
+use Rattle.records.specs.Face.{loops}
+use Rattle.records.proofs.Counting as counting
+use borrow.Author.Needs.{needs}
+use Rattle.records.proofs.check.too_many_points.Statement.{statement}
+use Rattle.records.proofs.check.too_many_points.Tie as tie
+
+abbrev Inv-loop : tie.InvT-loop
+Inv-loop face l total₀ k₀ total k = counting.Totalling face total k × ((l ≡ loops face) × (l < 256))
+
+abbrev μ-loop : tie.MeasureT-loop
+μ-loop face l total₀ k₀ total k = l - k
+
+loops-requires : tie.Need-loops-requires Inv-loop μ-loop
+loops-requires c κs = search needs
+
+loop-holds : tie.Need-loop-holds Inv-loop μ-loop
+loop-holds c = (counting.total-start _, c .loops .ensures)
+
+count-at-requires : tie.Need-count-at-requires Inv-loop μ-loop
+count-at-requires c κs = search needs
+
+add-total : tie.Need-add-total Inv-loop μ-loop
+add-total c = omega arith
+
+returns : tie.Need-returns Inv-loop μ-loop
+returns c = counting.total-found _ _ _ (c .before .before .before .loop .inv .0) _ (omega arith) (c .before .count-at .ensures .0) (c .if1 .taken)
+
+add-k : tie.Need-add-k Inv-loop μ-loop
+add-k c = omega arith
+
+loop-less : tie.Need-loop-less Inv-loop μ-loop
+loop-less c = omega arith
+
+loop-again : tie.Need-loop-again Inv-loop μ-loop
+loop-again c =
+    (counting.total-turn _ _ _ (c .before .before .before .loop .inv .0) _ (omega arith) (c .before .count-at .ensures .0) (c .if1 .left), c .before .before .before .loop .inv .1)
+
+returns-2 : tie.Need-returns-2 Inv-loop μ-loop
+returns-2 c = counting.total-end _ _ _ (c .before .loop .inv .0) (omega arith)
+
+pub too-many-points-spec : {M : Type 1} → statement M
+too-many-points-spec =
+    tie.close
+    (tie.spec
+    Inv-loop
+    μ-loop
+    loops-requires
+    loop-holds
+    count-at-requires
+    add-total
+    returns
+    add-k
+    loop-less
+    loop-again
+    returns-2)

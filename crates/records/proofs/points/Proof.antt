@@ -1,0 +1,54 @@
+use native.Mathlib.Omega.{arith}
+use mathlib.Core.Path.{_≡_}
+use Prim.Native.Nat.{_-_, _<_}
+use Rattle.records.specs.Face.{loops}
+use Rattle.records.proofs.Counting as counting
+use borrow.Author.Needs.{needs}
+use Rattle.records.proofs.points.Statement.{statement}
+use Rattle.records.proofs.points.Tie as tie
+
+abbrev Inv-loop : tie.InvT-loop
+Inv-loop face l total₀ k₀ total k = counting.Adding face total k × ((l ≡ loops face) × (l < 256))
+
+abbrev μ-loop : tie.MeasureT-loop
+μ-loop face l total₀ k₀ total k = l - k
+
+loops-requires : tie.Need-loops-requires Inv-loop μ-loop
+loops-requires c κs = search needs
+
+loop-holds : tie.Need-loop-holds Inv-loop μ-loop
+loop-holds c = (counting.add-start _, c .loops .ensures)
+
+count-at-requires : tie.Need-count-at-requires Inv-loop μ-loop
+count-at-requires c κs = search needs
+
+add-total : tie.Need-add-total Inv-loop μ-loop
+add-total c = omega arith
+
+add-k : tie.Need-add-k Inv-loop μ-loop
+add-k c = omega arith
+
+loop-less : tie.Need-loop-less Inv-loop μ-loop
+loop-less c = omega arith
+
+loop-again : tie.Need-loop-again Inv-loop μ-loop
+loop-again c =
+    (counting.add-turn _ _ _ _ (c .before .before .loop .inv .0) (omega arith) (c .count-at .ensures .0) (c .count-at .ensures .1), c .before .before .loop .inv .1)
+
+returns : tie.Need-returns Inv-loop μ-loop
+returns c = (counting.add-end _ _ _ (c .before .loop .inv .0) (omega arith), omega arith)
+
+pub points-spec : {M : Type 1} → statement M
+points-spec =
+    tie.close
+    (tie.spec
+    Inv-loop
+    μ-loop
+    loops-requires
+    loop-holds
+    count-at-requires
+    add-total
+    add-k
+    loop-less
+    loop-again
+    returns)
