@@ -6,5 +6,7 @@ pub mod Rows
 pub mod Ranges
 pub mod Reals
 pub mod Accepted
+pub mod Columns
+pub mod Reading
 pub mod RoundTrip
 pub mod Pieces

@@ -6,4 +6,5 @@ pub mod Accepted
 pub mod Result
 pub mod Call
 pub mod Parts
+pub mod Lent
 pub mod Answers
