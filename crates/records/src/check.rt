@@ -6,7 +6,7 @@ ghost use Prim.Native.Nat.{_+_, _*_, _≤_};
 ghost use lib.ListN.{length};
 ghost use lib.Ieee.{le};
 ghost use Rattle.records.specs.Face.{headerSize, headReals, loops, points, needed};
-ghost use Rattle.records.specs.Limits.{holds, radius, second, headRange, uRange, vRange, uvRange, xyzRange};
+ghost use Rattle.records.specs.Limits.{holds, radius, second, headRange, uvRange, xyzRange};
 ghost use Rattle.records.specs.Refusals.{wrongHeader, tooManyLoops, endsInCounts, tooFewPoints, tooManyPoints, wrongLength, firstBadReal, recordConditions, verdict};
 ghost use Rattle.records.specs.Parts.{badFrom};
 ghost use Rattle.records.specs.Answers.{placeOf, verdictOf, numberOf, placeIn};
@@ -215,32 +215,20 @@ fn head_holds(kind: u64, i: usize, x: f64) -> bool
     between(0.001, 1.5, x)
 }
 
-fn u_holds(kind: u64, x: f64) -> bool
-    ensures { λ r. ⌜ r ≡ holds (uRange kind) x ⌝ }
-{
-    if kind == 0 {
-        return between(-1000000.0, 1000000.0, x);
-    }
-    between(-64.0, 64.0, x)
-}
-
-fn v_holds(kind: u64, x: f64) -> bool
-    ensures { λ r. ⌜ r ≡ holds (vRange kind) x ⌝ }
-{
-    if kind <= 2 {
-        return between(-1000000.0, 1000000.0, x);
-    }
-    between(-64.0, 64.0, x)
-}
-
 // Parameter real j, from 0: u and v in turn.
 fn uv_holds(kind: u64, j: usize, x: f64) -> bool
     ensures { λ r. ⌜ r ≡ holds (uvRange kind j) x ⌝ }
 {
     if j % 2 == 0 {
-        return u_holds(kind, x);
+        if kind == 0 {
+            return between(-1000000.0, 1000000.0, x);
+        }
+        return between(-64.0, 64.0, x);
     }
-    v_holds(kind, x)
+    if kind <= 2 {
+        return between(-1000000.0, 1000000.0, x);
+    }
+    between(-64.0, 64.0, x)
 }
 
 fn xyz_holds(x: f64) -> bool

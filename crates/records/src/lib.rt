@@ -1,15 +1,15 @@
 // The face record and the result record as bytes: the check of a face record, reading it, and
 // writing a result record.
 ghost use mathlib.Core.Path.{_≡_};
-ghost use Prim.Native.Nat.{_+_, _*_, _^_, min, _≤_, _<_};
+ghost use Prim.Native.Nat.{_+_, _*_, _^_, _≤_, _<_};
 ghost use lib.ListN.{length, getD};
 ghost use Rattle.records.specs.Bytes.{numberAt, realAt};
-ghost use Rattle.records.specs.Lent.{least5};
 ghost use Rattle.records.specs.Face.{headerSize, loops, count, points};
 use numbers::bits;
 use numbers::bits::Real;
 
 pub mod check;
+pub mod lent;
 pub mod read;
 
 // Version 1: the sizes of a face record's parts, and its limits.
@@ -81,16 +81,4 @@ fn points(face: &[u8]) -> usize
         k += 1;
     }
     total
-}
-
-fn least(a: usize, b: usize) -> usize
-    ensures { λ r. ⌜ r ≡ min a b ⌝ }
-{
-    if a < b { a } else { b }
-}
-
-fn least5(a: usize, b: usize, c: usize, d: usize, e: usize) -> usize
-    ensures { λ r. ⌜ r ≡ least5 a b c d e ⌝ }
-{
-    least(a, least(b, least(c, least(d, e))))
 }

@@ -9,7 +9,7 @@ ghost use Rattle.records.specs.Lent.{front, countsThere, CountsRead, Hea
 use super::HEAD_REALS;
 use super::HEADER_SIZE;
 use super::count_at;
-use super::least5;
+use super::lent::least5;
 use super::loops;
 use super::points;
 use super::real_at;

@@ -1,8 +1,8 @@
 use mathlib.Core.Path.{ap, _∙_}
 use Prim.Native.Nat.{min}
 use borrow.Author.Needs.{needs}
-use Rattle.records.proofs.least5.Statement.{statement}
-use Rattle.records.proofs.least5.Tie as tie
+use Rattle.records.proofs.lent.least5.Statement.{statement}
+use Rattle.records.proofs.lent.least5.Tie as tie
 
 least-requires : tie.Need-least-requires
 least-requires c κs = search needs

@@ -1,0 +1,5 @@
+pub mod Stores
+pub mod Columns
+pub mod Rows
+pub mod Sizes
+pub mod Whole

@@ -1,0 +1,99 @@
+-- Bytes stored one after another: what is stored, with what remains to be stored, is the whole.
+use mathlib.Core.Path.{_≡_, refl, sym, ap, _∙_}
+use mathlib.Core.List.{List, [], _∷_, _++_, append-assoc}
+use Prim.Native.Nat.{ℕ, zero, suc, _+_, _-_, _*_, _/_, _%_, _≤_, _<_}
+use native.Mathlib.Numerals.{add-one}
+use native.Mathlib.Omega.{arith}
+use lib.ListN.{length, getD, drop, set, length-set, length-append, drop-of-length-le}
+use lib.Seq.{sets, length-sets, drop-cons}
+use lib.Ieee.{Float, nan, binary64, toBits}
+use Rattle.numbers.specs.declared.math.Vec2.{Vec2}
+use Rattle.numbers.specs.declared.math.Vec3.{Vec3}
+use Rattle.records.specs.Bytes.{bytes, u16, real, uv, xyz, row}
+use Rattle.records.proofs.RoundTrip.{Codes, codes-u16, codes-real, codes-uv, codes-xyz}
+
+-- one run behind another
+pub sets-append : (l : List ℕ) (i j : ℕ) (vs ws : List ℕ) → j ≡ i + length vs → sets (sets l i vs) j ws ≡ sets l i (vs ++ ws)
+sets-append l i j [] ws e = let f : j ≡ i = omega arith in rw f
+sets-append l i j (v ∷ vs) ws e = sets-append (set l i v) (suc i) j vs ws (omega arith)
+
+-- ---- one number: i of its w bytes are stored, `rest` holds the others
+
+pub record Putting (out₀ : List ℕ) (p w n : ℕ) (out : List ℕ) (rest i : ℕ) : Type 0 where
+  pub far : i ≤ w
+  pub room : p + w ≤ length out₀
+  pub long : length out ≡ length out₀
+  pub is : sets out (p + i) (bytes (w - i) rest) ≡ sets out₀ p (bytes w n)
+
+module _ (out₀ : List ℕ) (p w n : ℕ) where
+  pub put-start : p + w ≤ length out₀ → Putting out₀ p w n out₀ n 0
+  put-start h =
+      let e : p + 0 ≡ p = omega arith in
+      let f : w - 0 ≡ w = omega arith in
+      record { far = omega arith; room = h; long = refl; is = rw (e, f) }
+
+  module _ (out : List ℕ) (rest i : ℕ) (s : Putting out₀ p w n out rest i) where
+    pub put-turn : i < w → Putting out₀ p w n (set out (p + i) (rest % 256)) (rest / 256) (i + 1)
+    unfolding bytes
+    put-turn h =
+        let e : w - i ≡ suc (w - (i + 1)) = omega arith in
+        let f : suc (p + i) ≡ p + (i + 1) = omega arith in
+        record {
+          far = omega arith;
+          room = s .room;
+          long = length-set out (p + i) (rest % 256) ∙ s .long;
+          is =
+              ap (λ (k : ℕ). sets (set out (p + i) (rest % 256)) k (bytes (w - (i + 1)) (rest / 256))) (sym f)
+              ∙ ap (λ (m : ℕ). sets out (p + i) (bytes m rest)) (sym e) ∙ s .is;
+        }
+
+    pub put-end : w ≤ i → out ≡ sets out₀ p (bytes w n)
+    unfolding bytes
+    put-end h = let e : w - i ≡ 0 = omega arith in rw e at (s .is)
+
+-- ---- things in a row: i of them are stored
+
+pub record Storing {A : Type 0} (write : A → List ℕ) (w : ℕ) (out₀ : List ℕ) (p : ℕ) (xs : List A) (out : List ℕ) (i : ℕ) : Type 0 where
+  pub long : length out ≡ length out₀
+  pub is : sets out (p + w * i) (row write (drop i xs)) ≡ sets out₀ p (row write xs)
+
+module _ {A : Type 0} {one : List ℕ → ℕ → A} {write : A → List ℕ} {w : ℕ} {Ok : A → Type 0} (c : Codes one write w Ok) (out₀ : List ℕ) (p : ℕ) (xs : List A) where
+  pub store-start : Storing write w out₀ p xs out₀ 0
+  store-start = let e : p + w * 0 ≡ p = omega arith in record { long = refl; is = rw e }
+
+  module _ (out : List ℕ) (i : ℕ) (r : Storing write w out₀ p xs out i) where
+    -- what is left begins with thing i
+    left : (d : A) → i < length xs → row write (drop i xs) ≡ write (getD xs i d) ++ row write (drop (i + 1) xs)
+    unfolding row
+    left d h = rw (add-one i, drop-cons xs i d h)
+
+    pub store-turn : (out′ : List ℕ) (d : A) → i < length xs → out′ ≡ sets out (p + w * i) (write (getD xs i d)) → Storing write w out₀ p xs out′ (i + 1)
+    store-turn out′ d h e =
+        let a = getD xs i d in
+        let q : p + w * (i + 1) ≡ p + w * i + length (write a) = let z = c .wide a in omega arith in
+        record {
+          long = ap length e ∙ length-sets out (p + w * i) (write a) ∙ r .long;
+          is = rw e (sets-append out (p + w * i) (p + w * (i + 1)) (write a) (row write (drop (i + 1) xs)) q ∙ ap (sets out (p + w * i)) (sym (left d h)) ∙ r .is);
+        }
+
+    pub store-end : length xs ≤ i → out ≡ sets out₀ p (row write xs)
+    unfolding row
+    store-end h = rw (drop-of-length-le xs {i = i} h) at (r .is)
+
+-- ---- reals, as code leaves them: n are the bits of x
+
+as-real : (n : ℕ) (x : Float) → n ≡ toBits binary64 x → bytes 8 n ≡ real x
+unfolding real
+as-real n x e = ap (bytes 8) e
+
+pub put-real : (out out′ : List ℕ) (p n : ℕ) (x : Float) → n ≡ toBits binary64 x → out′ ≡ sets out p (bytes 8 n) → out′ ≡ sets out p (real x)
+put-real out out′ p n x e f = f ∙ ap (sets out p) (as-real n x e)
+
+pub put-uv : (out a b : List ℕ) (p : ℕ) (x y : Float) → a ≡ sets out p (real x) → b ≡ sets a (p + 8) (real y) → b ≡ sets out p (real x ++ real y)
+put-uv out a b p x y e f = f ∙ rw e (sets-append out p (p + 8) (real x) (real y) (let z = codes-real .wide x in omega arith))
+
+pub put-xyz : (out a b c : List ℕ) (p : ℕ) (x y z : Float) → a ≡ sets out p (real x) → b ≡ sets a (p + 8) (real y) → c ≡ sets b (p + 16) (real z)
+    → c ≡ sets out p (real x ++ (real y ++ real z))
+put-xyz out a b c p x y z e f g =
+    let l : length (real x ++ real y) ≡ 16 = simp length-append (let m = codes-real .wide x in let n = codes-real .wide y in omega arith) in
+    g ∙ rw (put-uv out a b p x y e f) (sets-append out p (p + 16) (real x ++ real y) (real z) (omega arith) ∙ ap (sets out p) (append-assoc (real x) (real y) (real z)))
