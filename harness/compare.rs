@@ -17,6 +17,7 @@ mod record;
 mod reference;
 mod report;
 mod shapes;
+mod surfaces;
 mod values;
 
 /// The Rust, cut out of its source by `cut.rs`.
@@ -29,6 +30,7 @@ use report::Run;
 
 const LAYERS: &[(&str, fn(&Run))] = &[
     ("numbers", numbers::compare),
+    ("surfaces", surfaces::compare),
     ("loops", loops::compare),
     ("generator", generator::meet_everything),
 ];

@@ -17,6 +17,30 @@ pub struct Placement {
     pub reference: Point,
 }
 
+/// A domain: its ends, and its periods or 0.
+#[repr(C)]
+#[derive(Clone, Copy)]
+pub struct Limits {
+    pub ulo: f64,
+    pub uhi: f64,
+    pub vlo: f64,
+    pub vhi: f64,
+    pub uperiod: f64,
+    pub vperiod: f64,
+}
+
+/// A kind by its number in a face record, with its two sizes.
+pub struct Surface {
+    pub kind: u32,
+    pub sizes: [f64; 2],
+}
+
+pub struct Tolerances {
+    pub sag: f64,
+    pub angle: f64,
+    pub segments: usize,
+}
+
 // Those marked `safe` take and give numbers alone, and no function has a precondition.
 #[link(name = "compared", kind = "static")]
 unsafe extern "C" {
@@ -46,6 +70,31 @@ unsafe extern "C" {
     pub safe fn frame_new(origin: Point, axis: Point, reference: Point) -> Placement;
     #[link_name = "compared_polar"]
     pub safe fn polar(frame: Placement, r: f64, theta: f64) -> Point;
+    safe fn compared_point_at(kind: u32, a: f64, b: f64, frame: Placement, u: f64, v: f64)
+    -> Point;
+    safe fn compared_domain(kind: u32, a: f64, b: f64) -> Limits;
+    safe fn compared_v_steps(
+        kind: u32,
+        a: f64,
+        b: f64,
+        from: f64,
+        to: f64,
+        sag: f64,
+        angle: f64,
+        segments: usize,
+    ) -> usize;
+    safe fn compared_direction_steps(
+        kind: u32,
+        a: f64,
+        b: f64,
+        along: bool,
+        lo: f64,
+        hi: f64,
+        other: f64,
+        sag: f64,
+        angle: f64,
+        segments: usize,
+    ) -> usize;
     #[link_name = "compared_nearest_branch"]
     pub safe fn nearest_branch(value: f64, reference: f64, period: f64) -> f64;
     fn compared_net_wrap(u: *const f64, u_len: usize, period: f64) -> i32;
@@ -53,6 +102,34 @@ unsafe extern "C" {
     fn compared_mean_v(v: *const f64, v_len: usize) -> f64;
     fn compared_least(xs: *const f64, xs_len: usize) -> f64;
     fn compared_greatest(xs: *const f64, xs_len: usize) -> f64;
+}
+
+pub fn point_at(surface: &Surface, frame: Placement, u: f64, v: f64) -> Point {
+    let [a, b] = surface.sizes;
+    compared_point_at(surface.kind, a, b, frame, u, v)
+}
+
+pub fn domain(surface: &Surface) -> Limits {
+    let [a, b] = surface.sizes;
+    compared_domain(surface.kind, a, b)
+}
+
+pub fn v_steps(surface: &Surface, from: f64, to: f64, tolerances: &Tolerances) -> usize {
+    let [a, b] = surface.sizes;
+    let Tolerances { sag, angle, segments } = *tolerances;
+    compared_v_steps(surface.kind, a, b, from, to, sag, angle, segments)
+}
+
+/// Along u or v from one value to another, where the other parameter is the third.
+pub fn direction_steps(
+    surface: &Surface,
+    along: bool,
+    [lo, hi, other]: [f64; 3],
+    tolerances: &Tolerances,
+) -> usize {
+    let [a, b] = surface.sizes;
+    let Tolerances { sag, angle, segments } = *tolerances;
+    compared_direction_steps(surface.kind, a, b, along, lo, hi, other, sag, angle, segments)
 }
 
 // A slice crosses as its pointer and its length, which hold for the time of the call.

@@ -29,6 +29,15 @@ pub struct Check {
 }
 
 impl Check {
+    /// Compares on an edge or on a random case.
+    pub fn see(&mut self, edge: bool, inputs: &[f64], rattle: &[f64], rust: &[f64]) {
+        if edge {
+            self.edge(inputs, rattle, rust);
+        } else {
+            self.case(inputs, rattle, rust);
+        }
+    }
+
     /// Compares on an edge.
     pub fn edge(&mut self, inputs: &[f64], rattle: &[f64], rust: &[f64]) {
         self.edges += 1;

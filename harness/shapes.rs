@@ -1,6 +1,8 @@
 //! Random surfaces and tolerances within the limits of document 01, "The face record", and often
 //! on them.
 
+use crate::compared::Tolerances;
+use crate::items::H;
 use crate::original::{Frame, Resolved, Surface, Vec3};
 use crate::random::Random;
 
@@ -38,6 +40,37 @@ pub fn shape(random: &mut Random, kind: Kind) -> Shape {
         angle: limited(random, 0.001, 1.5),
         segments: random.choose(&[1, 1, 1, 2, 3, 5, 63, 64]),
     }
+}
+
+/// Shapes at every limit of their sizes and tolerances.
+pub fn at_limits(kind: Kind) -> Vec<Shape> {
+    let radii: &[f64] = match kind {
+        Kind::Plane => &[0.0, -0.0],
+        Kind::Cone => &[0.0, -0.0, 1e6],
+        _ => &[1e-6, 1e6],
+    };
+    let others: &[f64] = match kind {
+        Kind::Cone => &[-1.5, -0.0, 0.0, 1e-12, 1.5],
+        Kind::Torus => &[1e-6, 1e6],
+        _ => &[0.0],
+    };
+    let far = 1e9;
+    let placements = [
+        [0.0, -0.0, 0.0, 0.0, 0.0, 1.0, 1.0, 0.0, 0.0],
+        [far, -far, far, far, far, -far, -far, far, far],
+        [0.0; 9],
+    ];
+    let mut out = Vec::new();
+    for placement in placements {
+        for (radius, other) in radii.iter().flat_map(|r| others.iter().map(|o| (*r, *o))) {
+            for (sag, angle) in [(1e-6, 0.001), (1e-6, 1.5), (1e3, 0.001), (1e3, 1.5)] {
+                let sizes = [radius, other];
+                let one = |segments| Shape { kind, placement, sizes, sag, angle, segments };
+                out.extend([one(1), one(64)]);
+            }
+        }
+    }
+    out
 }
 
 fn sizes(random: &mut Random, kind: Kind) -> [f64; 2] {
@@ -103,6 +136,15 @@ pub fn symmetric(random: &mut Random, most: f64) -> f64 {
     random.signed(size)
 }
 
+/// A parameter: an angle up to 64 in size, often a part of a turn, or a length up to 10^6.
+pub fn parameter(random: &mut Random, most: f64) -> f64 {
+    if random.one_in(2) {
+        let quarters = random.below(33) as f64 - 16.0;
+        return random.near(quarters * 0.5 * H, 1).clamp(-most, most);
+    }
+    symmetric(random, most)
+}
+
 impl Shape {
     /// The largest size of u and of v that a record may give.
     pub fn limits(&self) -> [f64; 2] {
@@ -141,5 +183,15 @@ impl Shape {
             max_depth: 1,
             interior_points: false,
         }
+    }
+
+    pub fn tolerances(&self) -> Tolerances {
+        Tolerances { sag: self.sag, angle: self.angle, segments: self.segments as usize }
+    }
+
+    /// All of it as reals, for the report.
+    pub fn reals(&self) -> Vec<f64> {
+        let rest = [self.kind as u8 as f64, self.sag, self.angle, self.segments as f64];
+        [&self.placement[..], &self.sizes, &rest].concat()
     }
 }

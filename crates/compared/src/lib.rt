@@ -2,3 +2,4 @@
 // equation of what it calls. The product does not link them.
 pub mod of_loops;
 pub mod of_numbers;
+pub mod of_surfaces;

@@ -32,7 +32,7 @@ fn vec_of(p: Point) -> numbers::math::Vec3
     }
 }
 
-fn point_of(p: numbers::math::Vec3) -> Point
+pub fn point_of(p: numbers::math::Vec3) -> Point
     ensures { λ r. ⌜ r ≡ pointOf p ⌝ }
 {
     Point {
@@ -42,7 +42,7 @@ fn point_of(p: numbers::math::Vec3) -> Point
     }
 }
 
-fn frame_of(f: Placement) -> numbers::math::Frame
+pub fn frame_of(f: Placement) -> numbers::math::Frame
     ensures { λ r. ⌜ r ≡ frameOf f ⌝ }
 {
     numbers::math::Frame {

@@ -1,0 +1,151 @@
+// The five kinds of surface, their domains and step counts.
+ghost use mathlib.Core.Path.{_≡_};
+ghost use Rattle.surfaces.specs.Domains.{domainOf};
+ghost use Rattle.surfaces.specs.Points as Points;
+ghost use Rattle.surfaces.specs.Steps.{vStepsOf, directionStepsOf};
+ghost use Rattle.compared.specs.Points.{pointOf, frameOf};
+ghost use Rattle.compared.specs.Surfaces.{surfaceOf, axisOf, resolvedOf, lengthOf, limitsOf};
+use super::of_numbers::Placement;
+use super::of_numbers::Point;
+use super::of_numbers::frame_of;
+use super::of_numbers::point_of;
+use numbers::math::Vec2;
+use surfaces::options::Resolved;
+use surfaces::steps::Axis;
+use surfaces::surface::Domain;
+use surfaces::surface::Period;
+use surfaces::surface::Surface;
+
+// A domain: its ends, and its periods or 0.
+#[repr(C)]
+pub struct Limits {
+    pub ulo: f64,
+    pub uhi: f64,
+    pub vlo: f64,
+    pub vhi: f64,
+    pub uperiod: f64,
+    pub vperiod: f64,
+}
+
+fn surface_of(kind: u32, a: f64, b: f64) -> Surface
+    ensures { λ r. ⌜ r ≡ surfaceOf kind a b ⌝ }
+{
+    match kind {
+        0 => Surface::Plane,
+        1 => Surface::Cylinder { radius: a },
+        2 => Surface::Cone {
+            radius: a,
+            half_angle: b,
+        },
+        3 => Surface::Sphere { radius: a },
+        _ => Surface::Torus {
+            major_radius: a,
+            minor_radius: b,
+        },
+    }
+}
+
+fn axis_of(along: bool) -> Axis
+    ensures { λ r. ⌜ r ≡ axisOf along ⌝ }
+{
+    if along { Axis::U } else { Axis::V }
+}
+
+fn length_of(period: Period) -> f64
+    ensures { λ r. ⌜ r ≡ lengthOf period ⌝ }
+{
+    match period {
+        Period::Every(p) => p,
+        Period::None => 0.0,
+    }
+}
+
+fn limits_of(d: Domain) -> Limits
+    ensures { λ r. ⌜ r ≡ limitsOf d ⌝ }
+{
+    let u_period = d.u_period;
+    let v_period = d.v_period;
+    Limits {
+        ulo: d.u.lo,
+        uhi: d.u.hi,
+        vlo: d.v.lo,
+        vhi: d.v.hi,
+        uperiod: length_of(u_period),
+        vperiod: length_of(v_period),
+    }
+}
+
+#[no_mangle]
+pub extern "C" fn compared_point_at(
+    kind: u32,
+    a: f64,
+    b: f64,
+    frame: Placement,
+    u: f64,
+    v: f64,
+) -> Point
+    ensures { λ p. ⌜ p ≡ pointOf (Points.pointOf (frameOf frame) (surfaceOf kind a b) u v) ⌝ }
+{
+    point_of(surface_of(kind, a, b).point_at(frame_of(frame), Vec2 { u, v }))
+}
+
+#[no_mangle]
+pub extern "C" fn compared_domain(kind: u32, a: f64, b: f64) -> Limits
+    ensures { λ d. ⌜ d ≡ limitsOf (domainOf (surfaceOf kind a b)) ⌝ }
+{
+    limits_of(surface_of(kind, a, b).domain())
+}
+
+#[no_mangle]
+pub extern "C" fn compared_v_steps(
+    kind: u32,
+    a: f64,
+    b: f64,
+    from: f64,
+    to: f64,
+    sag: f64,
+    angle: f64,
+    segments: usize,
+) -> usize
+    ensures { λ n. ⌜ n ≡ vStepsOf (surfaceOf kind a b) from to (resolvedOf sag angle segments) ⌝ }
+{
+    surfaces::steps::v_steps(
+        surface_of(kind, a, b),
+        from,
+        to,
+        Resolved {
+            sag,
+            angle,
+            min_edge_segments: segments,
+        },
+    )
+}
+
+#[no_mangle]
+pub extern "C" fn compared_direction_steps(
+    kind: u32,
+    a: f64,
+    b: f64,
+    along: bool,
+    lo: f64,
+    hi: f64,
+    other: f64,
+    sag: f64,
+    angle: f64,
+    segments: usize,
+) -> usize
+    ensures { λ n. ⌜ n ≡ directionStepsOf (surfaceOf kind a b) (axisOf along) lo hi other (resolvedOf sag angle segments) ⌝ }
+{
+    surfaces::steps::direction_steps(
+        surface_of(kind, a, b),
+        axis_of(along),
+        lo,
+        hi,
+        other,
+        Resolved {
+            sag,
+            angle,
+            min_edge_segments: segments,
+        },
+    )
+}

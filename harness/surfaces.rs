@@ -1,0 +1,124 @@
+//! The layer of surfaces against the Rust: points, domains and step counts, on random surfaces
+//! and on all limits of document 01, "The face record".
+
+use crate::compared::{self, Limits, Placement, Point};
+use crate::original::{Axis, Vec2, Vec3, direction_steps, v_steps};
+use crate::report::{Check, Run};
+use crate::shapes::{KINDS, Kind, Shape, at_limits, parameter, shape};
+
+const CASES: u64 = 400_000;
+
+pub fn compare(run: &Run) {
+    points(run);
+    domains(run);
+    wall_steps(run);
+    whole_steps(run);
+}
+
+/// Compares on shapes at their limits and on random ones; `one` is given whether it is an edge.
+fn on_shapes(
+    run: &Run,
+    name: &'static str,
+    kinds: &[Kind],
+    one: impl Fn(&mut Check, &Shape, bool),
+) {
+    let mut check = run.check(name);
+    for kind in kinds {
+        for shape in at_limits(*kind) {
+            one(&mut check, &shape, true);
+        }
+    }
+    for i in 0..run.times * CASES {
+        let kind = kinds[(i % kinds.len() as u64) as usize];
+        let shape = shape(&mut check.random, kind);
+        one(&mut check, &shape, false);
+    }
+    check.done();
+}
+
+/// The parameters to try: every pair of limits, or one random pair.
+fn pairs(check: &mut Check, most: [f64; 2], edge: bool) -> Vec<[f64; 2]> {
+    if !edge {
+        return vec![most.map(|m| parameter(&mut check.random, m))];
+    }
+    let ends = |m: f64| [-m, -0.0, 0.0, m];
+    ends(most[0]).iter().flat_map(|a| ends(most[1]).map(|b| [*a, b])).collect()
+}
+
+fn points(run: &Run) {
+    on_shapes(run, "point_at", &KINDS, |check, shape, edge| {
+        for [u, v] in pairs(check, shape.limits(), edge) {
+            let rust = shape.surface().point_at(Vec2::new(u, v));
+            let rattle = compared::point_at(&numbered(shape), placement(shape), u, v);
+            let given = [shape.reals(), vec![u, v]].concat();
+            check.see(edge, &given, &[rattle.x, rattle.y, rattle.z], &[rust.x, rust.y, rust.z]);
+        }
+    });
+}
+
+fn domains(run: &Run) {
+    on_shapes(run, "domain", &KINDS, |check, shape, edge| {
+        let Limits { ulo, uhi, vlo, vhi, uperiod, vperiod } = compared::domain(&numbered(shape));
+        let rust = shape.surface().domain();
+        // The Rust has no period where the port has the period 0.
+        let rust_periods = [rust.u_period, rust.v_period].map(|p| p.unwrap_or(0.0));
+        check.see(
+            edge,
+            &shape.reals(),
+            &[ulo, uhi, vlo, vhi, uperiod, vperiod],
+            &[&[rust.u.lo, rust.u.hi, rust.v.lo, rust.v.hi][..], &rust_periods].concat(),
+        );
+    });
+}
+
+fn wall_steps(run: &Run) {
+    on_shapes(run, "v_steps", &KINDS, |check, shape, edge| {
+        for [from, to] in pairs(check, [shape.limits()[1]; 2], edge) {
+            // The Rust reads u for free-form kinds alone.
+            let rust = v_steps(&shape.surface(), 0.0, from, to, &shape.resolved());
+            let rattle = compared::v_steps(&numbered(shape), from, to, &shape.tolerances());
+            let given = [shape.reals(), vec![from, to]].concat();
+            check.see(edge, &given, &[rattle as f64], &[rust as f64]);
+        }
+    });
+}
+
+/// Only spheres and tori are asked for them.
+fn whole_steps(run: &Run) {
+    on_shapes(run, "direction_steps", &[Kind::Sphere, Kind::Torus], |check, shape, edge| {
+        let surface = shape.surface();
+        let domain = surface.domain();
+        let own = [(Axis::U, domain.u, domain.v), (Axis::V, domain.v, domain.u)];
+        let mut stretches = own
+            .map(|(axis, along, across)| (axis, along.lo, along.hi, 0.5 * (across.lo + across.hi)));
+        if !edge {
+            for (_, lo, hi, other) in &mut stretches {
+                for x in [lo, hi, other] {
+                    *x = parameter(&mut check.random, 64.0);
+                }
+            }
+        }
+        for (axis, lo, hi, other) in stretches {
+            let rust = direction_steps(&surface, &domain, axis, lo, hi, other, &shape.resolved());
+            let rattle = compared::direction_steps(
+                &numbered(shape),
+                axis == Axis::U,
+                [lo, hi, other],
+                &shape.tolerances(),
+            );
+            let given = [shape.reals(), vec![lo, hi, other]].concat();
+            check.see(edge, &given, &[rattle as f64], &[rust as f64]);
+        }
+    });
+}
+
+fn numbered(shape: &Shape) -> compared::Surface {
+    compared::Surface { kind: shape.kind as u32, sizes: shape.sizes }
+}
+
+fn placement(shape: &Shape) -> Placement {
+    let frame = shape.frame();
+    let [origin, axis, reference] =
+        [frame.origin, frame.axis, frame.ref_dir].map(|p: Vec3| Point { x: p.x, y: p.y, z: p.z });
+    Placement { origin, axis, reference }
+}
