@@ -7,3 +7,4 @@ pub mod Elements
 pub mod Filling
 pub mod Placed
 pub mod Places
+pub mod Stores

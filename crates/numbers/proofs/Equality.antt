@@ -27,11 +27,11 @@ or-cases : (s t : Bool) → s || t ≡ true → (s ≡ true) ⊎ (t ≡ true)
 or-cases true t e = inl refl
 or-cases false t e = inr e
 
-or-left : (s t : Bool) → s ≡ true → s || t ≡ true
+pub or-left : (s t : Bool) → s ≡ true → s || t ≡ true
 or-left true t e = refl
 or-left false t e = absurd (false≢true e)
 
-or-right : (s t : Bool) → t ≡ true → s || t ≡ true
+pub or-right : (s t : Bool) → t ≡ true → s || t ≡ true
 or-right true t e = refl
 or-right false t e = e
 
@@ -41,7 +41,7 @@ beq-eq true false e = absurd (false≢true e)
 beq-eq false true e = absurd (false≢true e)
 beq-eq false false e = refl
 
-eq-beq : (s t : Bool) → s ≡ t → Bool·beq s t ≡ true
+pub eq-beq : (s t : Bool) → s ≡ t → Bool·beq s t ≡ true
 eq-beq true t e = rw (← e)
 eq-beq false t e = rw (← e)
 

@@ -3,4 +3,5 @@ pub mod Equality
 pub mod Position
 pub mod Signed
 pub mod Monotone
+pub mod Zeros
 pub mod Magnitude

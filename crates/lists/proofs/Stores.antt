@@ -1,0 +1,57 @@
+-- A run of stores into a list, `sets`, where it has room for a part of them only, or is a part of a longer list; and a list without its last.
+use Prim.Native.Nat.{ℕ, zero, suc, _+_, _-_, _≤_, _<_}
+use mathlib.Core.Path.{_≡_, refl, sym, ap, _∙_}
+use mathlib.Core.List.{List, [], _∷_, _++_, append-nil, dropLast}
+use native.Mathlib.Omega.{arith}
+use lib.Dec.{ltb}
+use lib.ListN.{length, take, drop, set, length-take, length-set, take-append-drop}
+use lib.Seq.{sets, sets-eq, set-out, take-nil, take-set-lt, drop-set-lt, drop-length}
+use borrow.Author.Tests.{ltb-true, ltb-false}
+use mathlib.Core.Bool.{Bool, true, false}
+
+module _ {A : Type 0} where
+  pub dropLast-is : (xs : List A) → dropLast xs ≡ take (length xs - 1) xs
+  dropLast-is [] = refl
+  dropLast-is (x ∷ []) = refl
+  dropLast-is (x ∷ y ∷ xs) =
+      let e : length (x ∷ y ∷ xs) - 1 ≡ suc (length (y ∷ xs) - 1) = omega arith in
+      rw e (ap (λ (l : List A). x ∷ l) (dropLast-is (y ∷ xs)))
+
+  pub length-dropLast : (xs : List A) → length (dropLast xs) ≡ length xs - 1
+  length-dropLast [] = refl
+  length-dropLast (x ∷ []) = refl
+  length-dropLast (x ∷ y ∷ xs) = let e : length (dropLast (y ∷ xs)) ≡ length (y ∷ xs) - 1 = length-dropLast (y ∷ xs) in omega arith
+
+  -- stores past the end do nothing
+  pub sets-past : (l : List A) (i : ℕ) (vs : List A) → length l ≤ i → sets l i vs ≡ l
+  sets-past l i [] h = refl
+  sets-past l i (v ∷ vs) h = let k : length l ≤ suc i = omega arith in rw (set-out l i v h) (sets-past l (suc i) vs k)
+
+  pub sets-room : (l : List A) (i j : ℕ) (vs : List A) → length l ≤ i + j → sets l i (take j vs) ≡ sets l i vs
+  sets-room l i zero vs h = let k : length l ≤ i = omega arith in sym (sets-past l i vs k)
+  sets-room l i (suc j) [] h = refl
+  sets-room l i (suc j) (v ∷ vs) h = let k : length (set l i v) ≤ suc i + j = omega (arith, length-set l i v) in sets-room (set l i v) (suc i) j vs k
+
+  -- a part that was lent and comes back
+  pub sets-part : (m : ℕ) (l : List A) (i : ℕ) (vs : List A) → sets (take m l) i vs ++ drop m l ≡ sets l i (take (m - i) vs)
+  sets-part m l i [] = take-append-drop m l ∙ ap (sets l i) (sym (take-nil (m - i)))
+  sets-part m l i (v ∷ vs) = go (ltb i m) refl (λ k. sets-part m k (suc i) vs)
+    where
+      go : (b : Bool) → ltb i m ≡ b → ((k : List A) → sets (take m k) (suc i) vs ++ drop m k ≡ sets k (suc i) (take (m - suc i) vs))
+          → sets (set (take m l) i v) (suc i) vs ++ drop m l ≡ sets l i (take (m - i) (v ∷ vs))
+      go true e rest =
+          let h : i < m = ltb-true i m e in
+          let q : m - i ≡ suc (m - suc i) = omega arith in
+          rw (q, ← take-set-lt m l i v h, ← drop-set-lt m l i v h) (rest (set l i v))
+      go false e rest =
+          let h : m ≤ i = ltb-false i m e in
+          let q : m - i ≡ 0 = omega arith in
+          let p : m - suc i ≡ 0 = omega arith in
+          let k : length (take m l) ≤ i = omega (arith, length-take m l) in
+          rw (q, set-out (take m l) i v k) (rest l ∙ rw p)
+
+  pub sets-whole : (l vs : List A) → length l ≡ length vs → sets l 0 vs ≡ vs
+  sets-whole l vs e =
+      let h : 0 + length vs ≤ length l = omega arith in
+      let z : 0 + length vs ≡ length l = omega arith in
+      sets-eq vs l 0 h ∙ rw (z, drop-length l) (append-nil vs)
