@@ -2,3 +2,4 @@ pub mod Points
 pub mod Domains
 pub mod Segments
 pub mod Steps
+pub mod Rungs

@@ -1,0 +1,57 @@
+-- The rungs of `merge_even` (`knots.rs`) for no breaks (01, item 4): the even divisions of a stretch, less those too near the one kept before. Callers use the laws of proofs/knots.
+-- The Rust sorts the divisions first. That changes nothing where lo ≤ hi and hi - lo are finite and n is at most 2 ^ 53 (proofs/knots/Rising.antt), and 01 leaves the rest free.
+use Prim.Native.Nat.{ℕ, zero, suc, _-_, max}
+use mathlib.Core.Bool.{Bool, cond}
+use mathlib.Core.List.{List, [], _∷_, dropLast}
+use lib.Dec.{leb}
+use lib.ListN.{drop, set}
+use lib.Ieee.{Float, binary64, ofBits, le}
+use Rattle.numbers.specs.Rounded.{_⊕_, _⊖_, _⊗_, _⊘_, count}
+use Rattle.numbers.specs.Order.{absOf}
+
+-- the division i of n: lo + (hi - lo) * i / max(n, 1), each operation rounded once
+unfoldable pub division : Float → Float → ℕ → ℕ → Float
+division lo hi n i = lo ⊕ (hi ⊖ lo) ⊗ count i ⊘ count (max n 1)
+
+-- k of them, from that of number i on
+unfoldable pub divisionsFrom : Float → Float → ℕ → ℕ → ℕ → List Float
+divisionsFrom lo hi n i zero = []
+divisionsFrom lo hi n i (suc k) = division lo hi n i ∷ divisionsFrom lo hi n (suc i) k
+
+-- from 0 to n
+abbrev pub divisions : Float → Float → ℕ → List Float
+divisions lo hi n = divisionsFrom lo hi n 0 (suc n)
+
+-- 1e-9
+abbrev pub nano : Float
+nano = ofBits binary64 0x3e11_2e0b_e826_d695
+
+unfoldable pub slackOf : Float → Float → Float
+slackOf lo hi = absOf (hi ⊖ lo) ⊗ nano
+
+unfoldable pub near : Float → Float → Float → Bool
+near slack x last = le (absOf (x ⊖ last)) slack
+
+-- what is kept of xs where `last` was kept before: each x that is not near the one kept before it
+unfoldable pub keptAfter : Float → Float → List Float → List Float
+keptAfter slack last [] = []
+keptAfter slack last (x ∷ xs) =
+    let dropped = near slack x last in
+    let rest = keptAfter slack (cond dropped last x) xs in
+    cond dropped rest (x ∷ rest)
+
+-- the first, and what is kept after it
+abbrev pub kept : Float → List Float → List Float
+kept slack [] = []
+kept slack (x ∷ xs) = x ∷ keptAfter slack x xs
+
+unfoldable pub rungs : Float → Float → ℕ → List Float
+rungs lo hi n = kept (slackOf lo hi) (divisions lo hi n)
+
+-- all but the first and the last
+unfoldable pub inner : List Float → List Float
+inner xs = dropLast (drop 1 xs)
+
+-- os with x in the place k - from, where there is one
+unfoldable pub placed : ℕ → ℕ → Float → List Float → List Float
+placed from k x os = cond (leb from k) (set os (k - from) x) os
