@@ -7,3 +7,5 @@ pub mod Branch
 pub mod Mean
 pub mod Span
 pub mod Wrap
+pub mod Part
+pub mod LeafValues

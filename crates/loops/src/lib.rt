@@ -3,5 +3,6 @@
 pub mod area;
 pub mod branch;
 pub mod mean;
+pub mod part;
 pub mod span;
 pub mod wrap;

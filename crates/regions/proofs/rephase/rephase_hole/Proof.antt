@@ -1,0 +1,57 @@
+use Rattle.regions.proofs.rephase.Laws.{hole-stays, hole-moves}
+use borrow.Author.Needs.{needs}
+use Rattle.regions.proofs.rephase.rephase_hole.Statement.{statement}
+use Rattle.regions.proofs.rephase.rephase_hole.Tie as tie
+
+part-requires : tie.Need-part-requires
+part-requires c κs = search needs
+
+hole-shift-requires : tie.Need-hole-shift-requires
+hole-shift-requires c κs = search needs
+
+part-requires-2 : tie.Need-part-requires-2
+part-requires-2 c κs = search needs
+
+hole-shift-requires-2 : tie.Need-hole-shift-requires-2
+hole-shift-requires-2 c κs = search needs
+
+stays-requires : tie.Need-stays-requires
+stays-requires c κs = search needs
+
+same-length : tie.Need-same-length
+same-length c = search needs
+
+same-length-2 : tie.Need-same-length-2
+same-length-2 c = search needs
+
+returns : tie.Need-returns
+returns c = hole-stays _ _ _ _ _ _ _ _ (c .before .before .before .before .before .before .part .ensures) (c .before .before .before .part2 .ensures) _ _ (c .before .before .before .before .before .hole-shift .ensures) (c .before .before .hole-shift2 .ensures) _ (c .before .stays .ensures) (c .if1 .taken)
+
+move-hole-requires : tie.Need-move-hole-requires
+move-hole-requires c κs = search needs
+
+same-length-3 : tie.Need-same-length-3
+same-length-3 c = search needs
+
+same-length-4 : tie.Need-same-length-4
+same-length-4 c = search needs
+
+returns-2 : tie.Need-returns-2
+returns-2 c = hole-moves _ _ _ _ _ _ _ _ (c .before .before .before .before .before .before .before .before .before .before .before .before .before .part .ensures) (c .before .before .before .before .before .before .before .before .before .before .part2 .ensures) _ _ (c .before .before .before .before .before .before .before .before .before .before .before .before .hole-shift .ensures) (c .before .before .before .before .before .before .before .before .before .hole-shift2 .ensures) _ (c .before .before .before .before .before .before .before .before .stays .ensures) _ _ _ (c .before .before .before .before .before .before .before .if1 .left) (c .before .before .before .before .move-hole .ensures)
+
+pub rephase-hole-spec : {M : Type 1} → statement M
+rephase-hole-spec =
+    tie.close
+    (tie.spec
+    part-requires
+    hole-shift-requires
+    part-requires-2
+    hole-shift-requires-2
+    stays-requires
+    same-length
+    same-length-2
+    returns
+    move-hole-requires
+    same-length-3
+    same-length-4
+    returns-2)

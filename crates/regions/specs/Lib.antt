@@ -1,0 +1,5 @@
+pub mod Table
+pub mod Outer
+pub mod Closed
+pub mod Rephase
+pub mod Values

@@ -1,0 +1,56 @@
+-- 01, "Values to hold", and the cases that tell its sentences apart, computed.
+use mathlib.Core.Path.{_≡_, refl}
+use mathlib.Core.List.{List, [], _∷_}
+use lib.Ieee.{Float, add, sub, mul, div, neg, lt, le, eq, ofBits, ofInt}
+use Rattle.numbers.specs.Order.{absOf}
+use Rattle.numbers.specs.Round.{roundAway}
+use Rattle.numbers.specs.Rounded.{_⊕_, count}
+use Rattle.loops.specs.Area.{areaOf, crossSum, crossAt}
+use Rattle.loops.specs.Span.{leastOf, greatestOf, middleOf}
+use Rattle.regions.specs.declared.rephase.Branch.{Branch}
+use Rattle.regions.specs.Table.{boxesOf}
+use Rattle.regions.specs.Outer.{billionth, outerOf, slackOf, encloses, every, passing, enclosesOther, enclosesOthers, enclosingOne, lastLargest}
+use Rattle.regions.specs.Rephase.{rephased, moved, shiftOf}
+
+-- the square of side n at the corner (0, 0)
+abbrev squareU : Float → List Float
+squareU n = count 0 ∷ n ∷ n ∷ count 0 ∷ []
+
+abbrev squareV : Float → List Float
+squareV n = count 0 ∷ count 0 ∷ n ∷ n ∷ []
+
+-- "Two equal squares: the second is outer."
+equal-squares : outerOf (boxesOf (squareU (count 1) ∷ squareU (count 1) ∷ []) (squareV (count 1) ∷ squareV (count 1) ∷ [])) (count 1 ∷ count 1 ∷ []) ≡ 1
+unfolding outerOf boxesOf leastOf greatestOf slackOf encloses every passing enclosesOther enclosesOthers enclosingOne lastLargest absOf add sub mul neg lt le ofBits ofInt
+equal-squares = refl
+
+-- the box that encloses is outer, whatever the areas are
+enclosing-square : outerOf (boxesOf (squareU (count 2) ∷ squareU (count 1) ∷ []) (squareV (count 2) ∷ squareV (count 1) ∷ [])) (count 0 ∷ count 1 ∷ []) ≡ 0
+unfolding outerOf boxesOf leastOf greatestOf slackOf encloses every passing enclosesOther enclosesOthers enclosingOne lastLargest absOf add sub mul neg lt le ofBits ofInt
+enclosing-square = refl
+
+-- it may fall short by 10^-9 of the largest side: here by 10^-9 itself, and the side is a little more than 1
+short-square : outerOf (boxesOf (squareU (count 1) ∷ (count 0 ∷ (count 1 ⊕ billionth) ∷ []) ∷ []) (squareV (count 1) ∷ (count 0 ∷ count 0 ∷ []) ∷ [])) (count 0 ∷ count 1 ∷ []) ≡ 0
+unfolding outerOf boxesOf leastOf greatestOf slackOf encloses every passing enclosesOther enclosesOthers enclosingOne lastLargest absOf add sub mul neg lt le ofBits ofInt
+short-square = refl
+
+-- ---- a hole, onto a branch with its middle at 0 and period 4 in u
+abbrev branch : Branch
+branch = record { umid = count 0; vmid = count 0; uperiod = count 4; vperiod = count 0 }
+
+-- from 5 to 6: one period down, and its area is worked out anew
+moved-hole : rephased branch (record { us = count 5 ∷ count 6 ∷ count 5 ∷ []; vs = count 0 ∷ count 0 ∷ count 2 ∷ []; area = count 7 })
+    ≡ record { us = count 1 ∷ count 2 ∷ count 1 ∷ []; vs = count 0 ∷ count 0 ∷ count 2 ∷ []; area = count 1 }
+unfolding rephased moved shiftOf roundAway areaOf crossSum crossAt leastOf greatestOf middleOf add sub mul div neg lt eq ofBits ofInt
+moved-hole = refl
+
+-- from 1 to 2: it stays, with its area
+unmoved-hole : rephased branch (record { us = count 1 ∷ count 2 ∷ count 1 ∷ []; vs = count 0 ∷ count 0 ∷ count 2 ∷ []; area = count 7 })
+    ≡ record { us = count 1 ∷ count 2 ∷ count 1 ∷ []; vs = count 0 ∷ count 0 ∷ count 2 ∷ []; area = count 7 }
+unfolding rephased moved shiftOf roundAway areaOf crossSum crossAt leastOf greatestOf middleOf add sub mul div neg lt eq ofBits ofInt
+unmoved-hole = refl
+
+-- moved in u, -0.0 in v becomes 0.0: both shifts are added
+zero-added : rephased branch (record { us = count 5 ∷ []; vs = neg (count 0) ∷ []; area = count 0 }) .vs ≡ count 0 ∷ []
+unfolding rephased moved shiftOf roundAway areaOf crossSum crossAt leastOf greatestOf middleOf add sub mul div neg lt eq ofBits ofInt
+zero-added = refl

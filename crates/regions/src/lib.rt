@@ -1,0 +1,6 @@
+// The region of a face whose loops all close: which loop is the outer one, the holes moved onto its
+// branch, and the boundary of a whole surface. Slices of any length.
+pub mod boxes;
+pub mod closed;
+pub mod outer;
+pub mod rephase;
