@@ -1,5 +1,5 @@
 -- What holds of a list put into another.
-use Prim.Native.Nat.{ℕ, suc, _+_, _≤_, _<_}
+use Prim.Native.Nat.{ℕ, suc, _+_, _-_, _≤_, _<_}
 use mathlib.Core.Path.{_≡_, refl, sym, ap, _∙_}
 use mathlib.Core.Bool.{Bool, true, false, cond}
 use mathlib.Core.List.{List, [], _∷_, _++_, append-assoc, append-nil}
@@ -10,7 +10,9 @@ use borrow.Author.Tests.{le-leb, lt-leb, leb-true}
 use lib.Dec.{leb}
 use lib.ListN.{length, take, drop, getD, set, length-append, length-drop, take-append-drop, drop-of-length-le}
 use lib.Seq.{length-take-le, take-at, drop-at, drop-drop, drop-cons, set-at, append-snoc}
+use Rattle.lists.specs.Parts.{onPart}
 use Rattle.lists.specs.Placed.{placed}
+use Rattle.lists.proofs.Parts.{on-part}
 
 module _ {A : Type 0} (at : ℕ) (w d : List A) where
   pub placed-fits : at + length w ≤ length d → placed at w d ≡ take at d ++ w ++ drop (at + length w) d
@@ -89,3 +91,28 @@ module _ {A : Type 0} where
           sym (drop-drop (length w) (at + length v) (placed at v d)) ∙ ap (drop (length w)) (drop-placed at v d (omega arith))
           ∙ drop-drop (length w) (at + length v) d
           ∙ ap (λ (k : ℕ). drop k d) (add-assoc at (length v) (length w) ∙ ap (λ (k : ℕ). at + k) (sym (length-append v w)))
+
+-- ---- what was put is read back or changed where it stands
+
+module _ {A : Type 0} (at e : ℕ) (w d : List A) (end-is : at + length w ≡ e) (room : e ≤ length d) where
+  parts : placed at w d ≡ take at d ++ (w ++ drop (at + length w) d)
+  parts = placed-fits at w d (omega arith) ∙ append-assoc (take at d) w (drop (at + length w) d)
+
+  head : length (take at d) ≡ at
+  head = length-take-le at d (omega arith)
+
+  pub read-placed : take (e - at) (drop at (placed at w d)) ≡ w
+  read-placed =
+      ap (λ (l : List A). take (e - at) (drop at l)) parts
+      ∙ ap (take (e - at)) (drop-at (take at d) (w ++ drop (at + length w) d) at head)
+      ∙ take-at w (drop (at + length w) d) (e - at) (omega arith)
+
+  pub before-placed : take at (placed at w d) ≡ take at d
+  before-placed = ap (take at) parts ∙ take-at (take at d) (w ++ drop (at + length w) d) at head
+
+  pub on-placed : (f : List A → List A) → length (f w) ≡ length w → onPart f at e (placed at w d) ≡ placed at (f w) d
+  on-placed f l =
+      ap (onPart f at e) parts ∙ on-part f (take at d) w (drop (at + length w) d) at e head end-is
+      ∙ ap (λ (n : ℕ). take at d ++ (f w ++ drop (at + n) d)) (sym l)
+      ∙ sym (append-assoc (take at d) (f w) (drop (at + length (f w)) d))
+      ∙ sym (placed-fits at (f w) d (omega arith))
