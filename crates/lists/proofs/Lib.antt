@@ -9,3 +9,4 @@ pub mod Placed
 pub mod Places
 pub mod Stores
 pub mod Written
+pub mod Pieces
