@@ -102,6 +102,21 @@ unsafe extern "C" {
     fn compared_mean_v(v: *const f64, v_len: usize) -> f64;
     fn compared_least(xs: *const f64, xs_len: usize) -> f64;
     fn compared_greatest(xs: *const f64, xs_len: usize) -> f64;
+    fn compared_drop_repeats(
+        u: *mut f64,
+        u_len: usize,
+        v: *mut f64,
+        v_len: usize,
+        x: *mut f64,
+        x_len: usize,
+        y: *mut f64,
+        y_len: usize,
+        z: *mut f64,
+        z_len: usize,
+        n: usize,
+        ks: *mut usize,
+        ks_len: usize,
+    ) -> usize;
 }
 
 pub fn point_at(surface: &Surface, frame: Placement, u: f64, v: f64) -> Point {
@@ -152,4 +167,26 @@ pub fn least(xs: &[f64]) -> f64 {
 
 pub fn greatest(xs: &[f64]) -> f64 {
     unsafe { compared_greatest(xs.as_ptr(), xs.len()) }
+}
+
+/// Of the first n corners; `ks` is room for the places of those that stay.
+pub fn drop_repeats(corners: &mut [Vec<f64>; 5], n: usize, ks: &mut [usize]) -> usize {
+    let [u, v, x, y, z] = corners;
+    unsafe {
+        compared_drop_repeats(
+            u.as_mut_ptr(),
+            u.len(),
+            v.as_mut_ptr(),
+            v.len(),
+            x.as_mut_ptr(),
+            x.len(),
+            y.as_mut_ptr(),
+            y.len(),
+            z.as_mut_ptr(),
+            z.len(),
+            n,
+            ks.as_mut_ptr(),
+            ks.len(),
+        )
+    }
 }

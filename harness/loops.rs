@@ -3,7 +3,7 @@
 use crate::compared;
 use crate::items::H;
 use crate::original::{
-    Domain, Interval, Vec2, mean_v, nearest_branch, net_wrap, signed_area, span,
+    Domain, Interval, Vec2, Vec3, drop_repeats, mean_v, nearest_branch, net_wrap, signed_area, span,
 };
 use crate::patterns::{few_edges, number};
 use crate::random::Random;
@@ -18,6 +18,7 @@ pub fn compare(run: &Run) {
     areas(run);
     means(run);
     spans(run);
+    repeats(run);
 }
 
 fn branches(run: &Run) {
@@ -120,6 +121,52 @@ fn spans(run: &Run) {
         check.case(&xs, &[compared::least(&xs), compared::greatest(&xs)], &[lo, hi]);
     }
     check.done();
+}
+
+fn repeats(run: &Run) {
+    let mut check = run.check("drop_repeats");
+    for _ in 0..run.times * CASES {
+        let given = corners(&mut check.random);
+        let (mut uv, mut xyz) = (pairs(&given[0], &given[1]), points(&given));
+        drop_repeats(&mut uv, &mut xyz);
+        let mut left = given.clone();
+        let n = given[0].len();
+        let kept = compared::drop_repeats(&mut left, n, &mut vec![0; n]);
+        let rattle = left.map(|column| column[..kept].to_vec()).concat();
+        check.case(&given.concat(), &rattle, &columns(&uv, &xyz).concat());
+    }
+    check.done();
+}
+
+/// Corners of few positions, so that many repeat; zeros of both signs, and now and then a NaN.
+fn corners(random: &mut Random) -> [Vec<f64>; 5] {
+    let n = if random.one_in(64) { random.below(1200) } else { random.below(14) };
+    let few = 1 + random.below(4);
+    let mut out = [const { Vec::new() }; 5];
+    for i in 0..n {
+        let place = random.below(few) as f64;
+        let zero = random.choose(&[0.0, 0.0, -0.0]);
+        let z = if random.one_in(256) { f64::NAN } else { zero };
+        for (column, x) in out.iter_mut().zip([i as f64, -(i as f64), place, zero, z]) {
+            column.push(x);
+        }
+    }
+    out
+}
+
+fn columns(uv: &[Vec2], xyz: &[Vec3]) -> [Vec<f64>; 5] {
+    [
+        uv.iter().map(|p| p.u).collect(),
+        uv.iter().map(|p| p.v).collect(),
+        xyz.iter().map(|p| p.x).collect(),
+        xyz.iter().map(|p| p.y).collect(),
+        xyz.iter().map(|p| p.z).collect(),
+    ]
+}
+
+fn points(columns: &[Vec<f64>; 5]) -> Vec<Vec3> {
+    let [_, _, x, y, z] = columns;
+    (0..x.len()).map(|i| Vec3::new(x[i], y[i], z[i])).collect()
 }
 
 /// A list of reals: parameters, zeros of both signs, or any patterns; at times none or many.

@@ -15,6 +15,13 @@ pub enum Members {
     All,
     /// Of an `impl` or an `enum` only these.
     Only(&'static [&'static str]),
+    /// Of a function the statements from the first text on and before the second, under a head of
+    /// our own.
+    Stretch {
+        from: &'static str,
+        to: &'static str,
+        head: &'static str,
+    },
 }
 
 const MATH: &str = "native/crates/cad-ir/src/math.rs";
@@ -60,6 +67,11 @@ fn cut(file: &'static str, name: &'static str) -> Cut {
 impl Cut {
     fn only(mut self, members: &'static [&'static str]) -> Cut {
         self.members = Members::Only(members);
+        self
+    }
+
+    fn stretch(mut self, from: &'static str, to: &'static str, head: &'static str) -> Cut {
+        self.members = Members::Stretch { from, to, head };
         self
     }
 
@@ -181,7 +193,7 @@ fn surfaces() -> Vec<Cut> {
     ]
 }
 
-/// The leaf functions on one loop.
+/// The leaf functions on one loop, and the dropping of repeats.
 fn loops() -> Vec<Cut> {
     vec![
         cut(FACE, "fn nearest_branch"),
@@ -189,7 +201,28 @@ fn loops() -> Vec<Cut> {
         cut(FACE, "fn signed_area"),
         cut(FACE, "fn mean_v"),
         cut(FACE, "fn span").order(1, 1),
+        repeats_by_items(cut(FACE, "fn close_strip").stretch(
+            "let mut cut = 0;",
+            "UvLoop {",
+            "pub fn drop_repeats(uv: &mut Vec<Vec2>, xyz: &mut Vec<Vec3>)",
+        )),
     ]
+}
+
+/// Item 5 in the two places where `close_strip` drops a corner.
+fn repeats_by_items(cut: Cut) -> Cut {
+    cut.replace(
+        ITEM_5,
+        "(xyz[i] - xyz[i - 1 - cut]).length_squared() <= 0.0",
+        "repeats(xyz[i], xyz[i - 1 - cut])",
+        1,
+    )
+    .replace(
+        ITEM_5,
+        "(xyz[xyz.len() - 1] - xyz[0]).length_squared() <= 0.0",
+        "repeats(xyz[xyz.len() - 1], xyz[0])",
+        1,
+    )
 }
 
 /// What the closed and the whole path call.
@@ -241,21 +274,9 @@ fn bands() -> Vec<Cut> {
         cut(FACE, "fn seam_segment")
             .replace(PATHS, "crate::knots", "knots", 4)
             .count("let inner =", "noted(Branch::WallEmpty, ladder.len() <= 2); let inner ="),
-        cut(FACE, "fn close_strip")
+        repeats_by_items(cut(FACE, "fn close_strip"))
             .drop_switches("if std::env::var_os(", 1)
             .edit(ITEM_5, Change::DropStatement("if uv.last().is_some_and("), 1)
-            .replace(
-                ITEM_5,
-                "(xyz[i] - xyz[i - 1 - cut]).length_squared() <= 0.0",
-                "repeats(xyz[i], xyz[i - 1 - cut])",
-                1,
-            )
-            .replace(
-                ITEM_5,
-                "(xyz[xyz.len() - 1] - xyz[0]).length_squared() <= 0.0",
-                "repeats(xyz[xyz.len() - 1], xyz[0])",
-                1,
-            )
             .count(
                 "let mut cut = 0",
                 "noted(Branch::FirstWallFalls, lower.uv[0].v > upper.uv[0].v);

@@ -2,4 +2,5 @@
 // equation of what it calls. The product does not link them.
 pub mod of_loops;
 pub mod of_numbers;
+pub mod of_repeats;
 pub mod of_surfaces;
