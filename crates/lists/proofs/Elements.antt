@@ -25,6 +25,11 @@ module _ {A : Type 0} where
       let before : i < length (reverse xs) = omega (arith, length-reverse xs) in
       ap (λ (l : List A). getD l i z) (reverse-cons x xs) ∙ List·getD-append (reverse xs) (x ∷ []) z i before ∙ getD-reverse xs i j z (omega arith)
 
+  pub length-dropLast : (xs : List A) → length (dropLast xs) ≡ length xs - 1
+  length-dropLast [] = refl
+  length-dropLast (x ∷ []) = refl
+  length-dropLast (x ∷ y ∷ xs) = let e = length-dropLast (y ∷ xs) in omega arith
+
   pub dropLast-take : (xs : List A) → dropLast xs ≡ take (length xs - 1) xs
   dropLast-take [] = sym (take-nil (0 - 1))
   dropLast-take (x ∷ []) = refl

@@ -8,5 +8,4 @@ pub mod Filling
 pub mod Placed
 pub mod Places
 pub mod Stores
-pub mod Written
 pub mod Pieces

@@ -1,7 +1,7 @@
--- A run of stores into a list, `sets`, where it has room for a part of them only, or is a part of a longer list; and a list without its last.
+-- A run of stores into a list, `sets`, where it has room for a part of them only, or is a part of a longer list.
 use Prim.Native.Nat.{ℕ, zero, suc, _+_, _-_, _≤_, _<_}
 use mathlib.Core.Path.{_≡_, refl, sym, ap, _∙_}
-use mathlib.Core.List.{List, [], _∷_, _++_, append-nil, dropLast}
+use mathlib.Core.List.{List, [], _∷_, _++_, append-nil}
 use native.Mathlib.Omega.{arith}
 use lib.Dec.{ltb}
 use lib.ListN.{length, take, drop, set, length-take, length-set, take-append-drop}
@@ -10,18 +10,6 @@ use borrow.Author.Tests.{ltb-true, ltb-false}
 use mathlib.Core.Bool.{Bool, true, false}
 
 module _ {A : Type 0} where
-  pub dropLast-is : (xs : List A) → dropLast xs ≡ take (length xs - 1) xs
-  dropLast-is [] = refl
-  dropLast-is (x ∷ []) = refl
-  dropLast-is (x ∷ y ∷ xs) =
-      let e : length (x ∷ y ∷ xs) - 1 ≡ suc (length (y ∷ xs) - 1) = omega arith in
-      rw e (ap (λ (l : List A). x ∷ l) (dropLast-is (y ∷ xs)))
-
-  pub length-dropLast : (xs : List A) → length (dropLast xs) ≡ length xs - 1
-  length-dropLast [] = refl
-  length-dropLast (x ∷ []) = refl
-  length-dropLast (x ∷ y ∷ xs) = let e : length (dropLast (y ∷ xs)) ≡ length (y ∷ xs) - 1 = length-dropLast (y ∷ xs) in omega arith
-
   -- stores past the end do nothing
   pub sets-past : (l : List A) (i : ℕ) (vs : List A) → length l ≤ i → sets l i vs ≡ l
   sets-past l i [] h = refl

@@ -8,4 +8,3 @@ pub mod Mean
 pub mod Span
 pub mod Wrap
 pub mod Part
-pub mod LeafValues

@@ -4,27 +4,6 @@ ghost use mathlib.Core.List.{map};
 ghost use Rattle.lists.specs.Parts.{onPart};
 ghost use Rattle.loops.specs.Part.{partOf, raised};
 ghost use Prim.Native.Nat.{_+_};
-ghost use lib.Ieee.{nan};
-ghost use lib.ListN.{getD, set};
-
-// Element i, and a NaN where there is none.
-pub fn at(xs: &[f64], i: usize) -> f64
-    ensures { λ r. ⌜ r ≡ getD (now (xs .entry)) i nan ⌝ }
-{
-    if i < xs.len() {
-        return xs[i];
-    }
-    0.0 / 0.0
-}
-
-// Stores element i; nothing where there is none.
-pub fn put(xs: &mut [f64], i: usize, x: f64)
-    ensures { λ _. ⌜ now (xs .exit) ≡ set (now (xs .entry)) i x ⌝ }
-{
-    if i < xs.len() {
-        xs[i] = x;
-    }
-}
 
 // The elements from start on, count of them or as many as there are.
 pub fn part(xs: &[f64], start: usize, count: usize) -> &[f64]

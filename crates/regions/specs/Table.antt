@@ -3,7 +3,7 @@ use Prim.Native.Nat.{ℕ}
 use mathlib.Core.Bool.{Bool, cond}
 use mathlib.Core.List.{List, [], _∷_, map}
 use lib.Ieee.{Float}
-use Rattle.lists.specs.Written.{written}
+use Rattle.lists.specs.Placed.{placed}
 use Rattle.loops.specs.Part.{partOf}
 use Rattle.loops.specs.Span.{leastOf, greatestOf}
 use Rattle.regions.specs.declared.boxes.Bounds.{Bounds}
@@ -19,9 +19,9 @@ module _ {A : Type 0} where
 abbrev pub endOf : Bool → List Float → Float
 endOf upper xs = cond upper (greatestOf xs) (leastOf xs)
 
--- that end of each loop, written over the front of a list
+-- that end of each loop, put into the front of a list
 unfoldable pub endsInto : Bool → List ℕ → List ℕ → List Float → List Float → List Float
-endsInto upper starts counts xs out = written (map (endOf upper) (loopsOf starts counts xs)) out
+endsInto upper starts counts xs out = placed 0 (map (endOf upper) (loopsOf starts counts xs)) out
 
 -- the box of a loop
 abbrev pub boxOf : List Float → List Float → Bounds

@@ -4,10 +4,10 @@ ghost use Prim.Native.Nat.{min};
 ghost use lib.ListN.{length};
 ghost use Rattle.regions.specs.Table.{endOf, endsInto, boxesFrom};
 ghost use Rattle.regions.specs.Outer.{boxAt};
-use loops::part::at;
 use loops::part::part;
 use loops::span::greatest;
 use loops::span::least;
+use slices::at;
 
 pub struct Bounds {
     pub ulo: f64,

@@ -6,12 +6,12 @@ ghost use Rattle.numbers.specs.Constants.{plusZero};
 ghost use Rattle.regions.specs.Rephase.{arrays, loopAt, withPart, shiftOf, moved, rephased, branchAt, rephaseLoop, rephaseHoles};
 use super::boxes::loop_count;
 use loops::area::signed_area;
-use loops::part::at;
 use loops::part::part;
-use loops::part::put;
 use loops::part::shift_part;
 use loops::span::middle;
 use numbers::rounding::round;
+use slices::at;
+use slices::put;
 
 // Where the holes go: the middle of the outer loop, and the periods. The period of an open direction
 // is 0.0.

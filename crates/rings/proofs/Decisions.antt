@@ -12,9 +12,8 @@ use lib.ListN.{length, getD, drop, length-map, length-drop}
 use lib.Seq.{drop-cons}
 use Rattle.numbers.specs.Rounded.{_⊕_, _⊖_}
 use Rattle.loops.specs.Span.{leastOf, greatestOf}
-use Rattle.lists.proofs.Elements.{getD-map}
+use Rattle.lists.proofs.Elements.{getD-map, length-dropLast}
 use Rattle.rings.specs.Choices.{slack, firstFrom, firstLeast, firstPast, beginsBackward, straddles, offset, nearest, stepStands, standsAtTheCut, serve, firstOf}
-use Rattle.rings.proofs.Lengths.{length-dropLast}
 
 -- ---- branches
 

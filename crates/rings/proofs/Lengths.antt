@@ -1,5 +1,5 @@
 -- A ring begun elsewhere has as many points.
-use Prim.Native.Nat.{ℕ, zero, suc, _+_, _-_, _≤_, _<_, min}
+use Prim.Native.Nat.{ℕ, _+_, _-_, _≤_, _<_, min}
 use mathlib.Core.Path.{_≡_, refl}
 use mathlib.Core.Bool.{Bool, true, false, cond, _||_}
 use mathlib.Core.List.{List, [], _∷_, map, dropLast}
@@ -9,15 +9,11 @@ use lib.Dec.{ltb, eqb}
 use lib.Ieee.{Float, ne}
 use lib.ListN.{length, length-map, length-append, length-take, length-drop}
 use Rattle.numbers.specs.Constants.{plusZero}
+use Rattle.lists.proofs.Elements.{length-dropLast}
 use Rattle.loops.specs.Rings.{begun, closed, turned}
 use Rattle.rings.specs.Turns.{unlessZero, beginRingAt, turnedOnto, alignAt}
 
 module _ {A : Type 0} where
-  pub length-dropLast : (xs : List A) → length (dropLast xs) ≡ length xs - 1
-  length-dropLast [] = refl
-  length-dropLast (x ∷ []) = refl
-  length-dropLast (x ∷ y ∷ xs) = let e = length-dropLast (y ∷ xs) in omega arith
-
   pub length-if : (n : ℕ) (t : Bool) (xs ys : List A) → length xs ≡ n → length ys ≡ n → length (cond t xs ys) ≡ n
   length-if n true xs ys d e = d
   length-if n false xs ys d e = e

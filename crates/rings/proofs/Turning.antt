@@ -14,7 +14,8 @@ use Rattle.lists.proofs.Parts.{on-part}
 use Rattle.numbers.specs.Constants.{plusZero}
 use Rattle.loops.specs.Rings.{begun, closed, turned, unchanged}
 use Rattle.rings.specs.Turns.{unlessZero, beginRingAt, turnedOnto, alignAt}
-use Rattle.rings.proofs.Lengths.{length-begun, length-dropLast}
+use Rattle.lists.proofs.Elements.{length-dropLast}
+use Rattle.rings.proofs.Lengths.{length-begun}
 
 module _ {A : Type 0} (f : A → A) where
   pub begun-past : (k : ℕ) (a : List A) → length a < k → map f a ≡ begun f k a

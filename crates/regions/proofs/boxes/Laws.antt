@@ -7,8 +7,9 @@ use native.Mathlib.Nat.{le-of-suc-le-suc, not-suc-le-zero}
 use native.Mathlib.Omega.{arith}
 use lib.ListN.{length, getD, set, length-map, List·getD-eq-default}
 use lib.Ieee.{Float, nan}
-use Rattle.lists.proofs.Fill.{Filling, filling, filling-turn, getD-map}
-use Rattle.lists.proofs.Written.{written-all, written-none}
+use Rattle.lists.proofs.Elements.{getD-map}
+use Rattle.lists.proofs.Filling.{Filling, front, front-turn, filling-end}
+use Rattle.lists.proofs.Placed.{placed-short}
 use Rattle.loops.specs.Part.{partOf}
 use Rattle.regions.specs.Table.{loopsOf, endOf, endsInto, boxesFrom}
 use Rattle.regions.specs.Outer.{boxAt, nowhere}
@@ -39,26 +40,26 @@ module _ (ss cs : List ℕ) (xs : List Float) (upper : Bool) (out₀ : List Floa
   pub record Ends (out : List Float) (n i : ℕ) : Type 0 where
     pub all : n ≡ min (length ss) (length cs)
     pub whole : length ends ≡ n
-    pub fill : Filling ends out₀ out i
+    pub fill : Filling 0 ends out₀ out i
 
   pub no-room : (n : ℕ) → n ≡ min (length ss) (length cs) → length out₀ < n → out₀ ≡ endsInto upper ss cs xs out₀
   unfolding endsInto
-  no-room n e h = let l = length-ends in written-none ends out₀ (omega arith)
+  no-room n e h = let l = length-ends in sym (placed-short 0 ends out₀ (omega arith))
 
   pub ends-start : (n : ℕ) → n ≡ min (length ss) (length cs) → n ≤ length out₀ → Ends out₀ n 0
-  ends-start n e h = let l = length-ends in record { all = e; whole = omega arith; fill = filling ends out₀ (omega arith) }
+  ends-start n e h = let l = length-ends in record { all = e; whole = omega arith; fill = front ends out₀ (omega arith) }
 
   pub ends-turn : (out : List Float) (n i : ℕ) (l : List Float) (x : Float) → Ends out n i → i < n → l ≡ partOf (getD ss i 0) (getD cs i 0) xs → x ≡ endOf upper l → Ends (set out i x) n (i + 1)
   ends-turn out n i l x k h p e =
       let a = k .all in
       let w = k .whole in
       let m = length-loops ss cs xs in
-      let q : x ≡ getD ends i nan = e ∙ ap (endOf upper) (p ∙ sym (getD-loops ss cs xs i (omega arith) (omega arith))) ∙ sym (getD-map nan [] (endOf upper) (loopsOf ss cs xs) i (omega arith)) in
-      record { all = a; whole = w; fill = filling-turn nan ends out₀ out i x (k .fill) (omega arith) q }
+      let q : x ≡ getD ends i nan = e ∙ ap (endOf upper) (p ∙ sym (getD-loops ss cs xs i (omega arith) (omega arith))) ∙ sym (getD-map (endOf upper) (loopsOf ss cs xs) i nan [] (omega arith)) in
+      record { all = a; whole = w; fill = front-turn ends out₀ out i x nan (k .fill) (omega arith) q }
 
   pub ends-done : (out : List Float) (n i : ℕ) → Ends out n i → n ≤ i → out ≡ endsInto upper ss cs xs out₀
   unfolding endsInto
-  ends-done out n i k h = let w = k .whole in written-all ends out₀ out i (k .fill) (omega arith)
+  ends-done out n i k h = let w = k .whole in filling-end 0 ends out₀ out i (k .fill) (omega arith)
 
 -- ---- boxes by their four ends
 pub length-boxes : (ul uh vl vh : List Float) → length (boxesFrom ul uh vl vh) ≡ min (min (length ul) (length uh)) (min (length vl) (length vh))

@@ -9,7 +9,7 @@ use lib.ListN.{length, length-map}
 use lib.Ieee.{Float}
 use borrow.Author.Tests.{leb-true}
 use Rattle.numbers.proofs.Equality.{and-left, and-right}
-use Rattle.lists.proofs.Written.{length-written, written-front}
+use Rattle.lists.proofs.Placed.{length-placed, front-placed}
 use Rattle.loops.specs.Part.{partOf}
 use Rattle.regions.specs.Table.{loopsOf, endOf, endsInto, boxesOf, boxesFrom}
 use Rattle.regions.specs.Outer.{outerOf}
@@ -48,14 +48,14 @@ module _ (ss cs : List ℕ) where
 
   length-ends : (upper : Bool) (xs out : List Float) → length (endsInto upper ss cs xs out) ≡ length out
   unfolding endsInto
-  length-ends upper xs out = length-written (map (endOf upper) (loopsOf ss cs xs)) out
+  length-ends upper xs out = length-placed 0 (map (endOf upper) (loopsOf ss cs xs)) out
 
   front-ends : (upper : Bool) (xs out : List Float) → loops ≤ length out → partOf 0 loops (endsInto upper ss cs xs out) ≡ map (endOf upper) (loopsOf ss cs xs)
   unfolding endsInto partOf
   front-ends upper xs out h =
       let w = map (endOf upper) (loopsOf ss cs xs) in
       let e : length w ≡ loops = length-map (loopsOf ss cs xs) (endOf upper) ∙ length-loops ss cs xs in
-      rw e at (written-front w out (omega arith))
+      rw e at (front-placed w out (omega arith))
 
   module _ (us vs areas ul uh vl vh : List Float) where
     -- with room, and without

@@ -6,7 +6,8 @@ use native.Mathlib.Omega.{arith}
 use lib.ListN.{length, take, drop, length-drop}
 use lib.Seq.{sets}
 use lib.Ieee.{Float}
-use Rattle.lists.proofs.Stores.{dropLast-is, length-dropLast, sets-part, sets-room}
+use Rattle.lists.proofs.Elements.{dropLast-take, length-dropLast}
+use Rattle.lists.proofs.Stores.{sets-part, sets-room}
 use Rattle.surfaces.specs.Rungs.{inner}
 
 pub inner-length : (xs : List Float) → length (inner xs) ≡ length xs - 1 - 1
@@ -18,7 +19,7 @@ inner-counted xs e1 e2 = let q = inner-length xs in omega arith
 
 inner-take : (xs : List Float) → take (length (inner xs)) (drop 1 xs) ≡ inner xs
 unfolding inner
-inner-take xs = ap (λ (k : ℕ). take k (drop 1 xs)) (length-dropLast (drop 1 xs)) ∙ sym (dropLast-is (drop 1 xs))
+inner-take xs = ap (λ (k : ℕ). take k (drop 1 xs)) (length-dropLast (drop 1 xs)) ∙ sym (dropLast-take (drop 1 xs))
 
 module _ (xs os : List Float) {m : ℕ} (count : m ≡ length (inner xs)) where
   -- into a part with room for just these

@@ -3,7 +3,7 @@ use mathlib.Core.Path.{refl}
 use native.Mathlib.Omega.{arith}
 use lib.ListN.{length}
 use lib.Ieee.{nan}
-use Rattle.lists.proofs.Fill.{Mapping, mapping, mapping-turn, mapping-end}
+use Rattle.lists.proofs.Mapping.{Mapping, mapping, mapping-turn, mapping-end}
 use Rattle.loops.specs.Part.{raised}
 use Rattle.loops.proofs.part.shift.Statement.{statement}
 use Rattle.loops.proofs.part.shift.Tie as tie
