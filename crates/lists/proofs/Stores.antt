@@ -5,7 +5,7 @@ use mathlib.Core.List.{List, [], _∷_, _++_, append-nil}
 use native.Mathlib.Omega.{arith}
 use lib.Dec.{ltb}
 use lib.ListN.{length, take, drop, set, length-take, length-set, take-append-drop}
-use lib.Seq.{sets, sets-eq, set-out, take-nil, take-set-lt, drop-set-lt, drop-length}
+use lib.Seq.{sets, length-take-le, sets-eq, set-out, take-nil, take-set-lt, drop-set-lt, drop-length}
 use borrow.Author.Tests.{ltb-true, ltb-false}
 use mathlib.Core.Bool.{Bool, true, false}
 
@@ -43,3 +43,9 @@ module _ {A : Type 0} where
       let h : 0 + length vs ≤ length l = omega arith in
       let z : 0 + length vs ≡ length l = omega arith in
       sets-eq vs l 0 h ∙ rw (z, drop-length l) (append-nil vs)
+
+  pub sets-over : (l vs : List A) → length l ≤ length vs → sets l 0 vs ≡ take (length l) vs
+  sets-over l vs h =
+      let k : length l ≤ 0 + length l = omega arith in
+      let e : length l ≡ length (take (length l) vs) = sym (length-take-le (length l) vs h) in
+      sym (sets-room l 0 (length l) vs k) ∙ sets-whole l (take (length l) vs) e

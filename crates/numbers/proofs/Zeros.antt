@@ -18,7 +18,7 @@ use Rattle.numbers.proofs.Reals.{exact, fits-digits, fits-under}
 use Rattle.numbers.proofs.Signed.{zero-is, le-numbers, le→cross}
 use Rattle.numbers.proofs.Equality.{and-both, or-left, or-right, eq-beq}
 use Rattle.numbers.proofs.Magnitude.{units-shape}
-use Rattle.numbers.proofs.Monotone.{Positive, div-at}
+use Rattle.numbers.proofs.Monotone.{Positive, div-at, ofInt-positive}
 
 -- a zero with its sign
 abbrev pub nil : Bool → Float
@@ -168,3 +168,30 @@ minus-negative-zero (fin true (suc n) k) e b m d h q = absurd (none (le→cross 
   where
     none : 0 * down k + suc n * up k * down e ≤ 0 * down e + 0 * up e * down k → ⊥
     none c = let p : 0 < suc n * up k * down e = mul-pos (mul-pos (zero-lt-suc n) (up-pos k)) (down-pos e) in omega arith
+
+-- ---- nothing of a width, added: x + (w * 0) / c and x + (0 * i) / c are x + 0.0
+pub record Nothing (w q : Float) : Type 0 where
+  pub sign : Bool
+  pub size : ℕ
+  pub expo : ℤ
+  pub width : w ≡ fin sign size expo
+  pub is : q ≡ nil sign
+
+pub none-of : (w c : Float) → T (finite w) → Positive c → Nothing w (w ⊗ count 0 ⊘ c)
+none-of nan c h p = absurd h
+none-of (inf s) c h p = absurd h
+none-of (fin s m e) c h p = record { sign = s; size = m; expo = e; width = refl; is = ap (λ (z : Float). fin s m e ⊗ z ⊘ c) count-zero ∙ ap (λ (z : Float). z ⊘ c) (times-zero s m e) ∙ zero-over s c p }
+
+pub plus-none : (x : Float) (s : Bool) → T (finite x) → ((e : ℤ) → x ≡ fin true 0 e → s ≡ false) → x ⊕ nil s ≡ x ⊕ plusZero
+plus-none nan s h k = absurd h
+plus-none (inf t) s h k = absurd h
+plus-none (fin false zero e) s h k = rw plus-zero-is (none-plus false e s (pos 0) ∙ sym (none-plus false e false (pos 0)))
+plus-none (fin true zero e) s h k = rw (plus-zero-is, k e refl)
+plus-none (fin t (suc m) e) s h k = rw plus-zero-is (some-plus t m e s (pos 0) ∙ sym (some-plus t m e false (pos 0)))
+
+zero-times-count : (i : ℕ) → i ≤ 2 ^ 53 → nil false ⊗ count i ≡ nil false
+zero-times-count zero h = ap (λ (z : Float). nil false ⊗ z) count-zero ∙ times-zero false 0 (pos 0)
+zero-times-count (suc i) h = let p = ofInt-positive binary64 (suc i) (zero-lt-suc i) h in ap (λ (z : Float). nil false ⊗ z) (p .is) ∙ zero-times false (suc (p .size)) (p .expo)
+
+pub no-width : (w c : Float) (i : ℕ) → w ≡ nil false → Positive c → i ≤ 2 ^ 53 → w ⊗ count i ⊘ c ≡ nil false
+no-width w c i e p h = ap (λ (z : Float). z ⊗ count i ⊘ c) e ∙ ap (λ (z : Float). z ⊘ c) (zero-times-count i h) ∙ zero-over false c p

@@ -3,3 +3,5 @@ pub mod Domains
 pub mod Segments
 pub mod Steps
 pub mod Rungs
+pub mod Sorting
+pub mod Values
