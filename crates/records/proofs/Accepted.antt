@@ -44,10 +44,10 @@ module _ (s : List ℕ) where
       go false e = first-fails (wrongByte s) headerSize .0 e
 
   -- the total of all loops is the running total of the last
-  total→ : (l : ℕ) → ((k : ℕ) → k < l → start s (suc k) ≤ maxPoints) → start s l ≤ maxPoints
+  pub last-total : (l : ℕ) → ((k : ℕ) → k < l → start s (suc k) ≤ maxPoints) → start s l ≤ maxPoints
   unfolding start
-  total→ zero h = omega arith
-  total→ (suc l) h = h l (omega arith)
+  last-total zero h = omega arith
+  last-total (suc l) h = h l (omega arith)
 
   accepted→ : verdict recordConditions s ≡ passes → Accepted s
   unfolding tooManyLoops tooFewPoints tooManyPoints wrongLength firstBadReal badReal wrongByte
@@ -63,7 +63,7 @@ module _ (s : List ℕ) where
         some-segments = ltb-false (segments s) 1 (or-left _ _ segments-are);
         few-segments = ltb-false 64 (segments s) (or-right (segments s <? 1) _ segments-are);
         each-loop = λ k l. ltb-false (count s k) minPoints (first-fails (λ i. count s i <? minPoints) (loops s) .0 (none 3) k l);
-        total = total→ (loops s) (λ k l. ltb-false maxPoints (start s (suc k)) (first-fails (λ i. maxPoints <? start s (suc i)) (loops s) .0 (none 4) k l));
+        total = last-total (loops s) (λ k l. ltb-false maxPoints (start s (suc k)) (first-fails (λ i. maxPoints <? start s (suc i)) (loops s) .0 (none 4) k l));
         whole = eqb-true (length s) (needed s) (not-false _ (when-fails _ (needed s) .0 (none 5)));
         in-range = λ i l. not-false _ (first-fails (badReal s) (reals s) .0 (none 6) i l);
       }

@@ -22,13 +22,13 @@ pub record Filling {A : Type 0} (w d₀ d : List A) (i : ℕ) : Type 0 where
   pub long : length d ≡ length d₀
   pub is : d ≡ take i w ++ drop i d₀
 
-module _ {A : Type 0} (w d₀ : List A) where
+module _ {A : Type 0} {w d₀ : List A} where
   pub filling-start : length w ≤ length d₀ → Filling w d₀ d₀ 0
   filling-start h = record { far = omega arith; room = h; long = refl; is = refl }
 
-  module _ (d : List A) (i : ℕ) (f : Filling w d₀ d i) where
-    pub filling-turn : (z x : A) → i < length w → x ≡ getD w i z → Filling w d₀ (set d i x) (i + 1)
-    filling-turn z x h e = record {
+  module _ {d : List A} {i : ℕ} (f : Filling w d₀ d i) where
+    pub filling-turn : (z : A) {x : A} → i < length w → x ≡ getD w i z → Filling w d₀ (set d i x) (i + 1)
+    filling-turn z {x} h e = record {
       far = omega arith;
       room = f .room;
       long = length-set d i x ∙ f .long;
@@ -50,19 +50,19 @@ module _ (s : List ℕ) where
   unfolding counts
   length-counts = length-rowAt u16At 2 s headerSize (loops s)
 
-  module _ (l : ℕ) (e : l ≡ loops s) (d₀ : List ℕ) where
+  module _ {l : ℕ} (e : l ≡ loops s) {d₀ : List ℕ} where
     pub counts-start : l ≤ length d₀ → Filling (counts s) d₀ d₀ 0
-    counts-start h = let z = length-counts in filling-start (counts s) d₀ (omega arith)
+    counts-start h = let z = length-counts in filling-start (omega arith)
 
-    module _ (d : List ℕ) (k : ℕ) (f : Filling (counts s) d₀ d k) where
-      pub counts-turn : (n : ℕ) → k < l → n ≡ count s k → Filling (counts s) d₀ (set d k n) (k + 1)
+    module _ {d : List ℕ} {k : ℕ} (f : Filling (counts s) d₀ d k) where
+      pub counts-turn : {n : ℕ} → k < l → n ≡ count s k → Filling (counts s) d₀ (set d k n) (k + 1)
       unfolding counts
-      counts-turn n h q =
+      counts-turn h q =
           let z = length-counts in
-          filling-turn (counts s) d₀ d k f 0 n (omega arith) (q ∙ sym (getD-rowAt u16At 2 s headerSize (loops s) k 0 (omega arith)))
+          filling-turn f 0 (omega arith) (q ∙ sym (getD-rowAt u16At 2 s headerSize (loops s) k 0 (omega arith)))
 
       pub counts-end : l ≤ k → d ≡ front (counts s) d₀
-      counts-end h = let z = length-counts in filling-end (counts s) d₀ d k f (omega arith)
+      counts-end h = let z = length-counts in filling-end f (omega arith)
 
 -- ---- reals that stand w bytes apart, each `off` bytes behind the begin of its w bytes
 
@@ -73,13 +73,13 @@ pub record Column (s : List ℕ) (base off w n : ℕ) (d₀ d : List Float) (p i
   pub all : base + w * n ≤ length s
   pub filling : Filling (rowAt realAt w s (base + off) n) d₀ d i
 
-module _ (s : List ℕ) (base off w n : ℕ) (d₀ : List Float) where
+module _ {s : List ℕ} {base off w n : ℕ} {d₀ : List Float} where
   pub column-start : off + 8 ≤ w → base + w * n ≤ length s → n ≤ length d₀ → Column s base off w n d₀ d₀ (base + off) 0
   column-start h a r =
       let l = length-rowAt realAt w s (base + off) n in
-      record { next = omega arith; inside = h; all = a; filling = filling-start _ d₀ (omega arith) }
+      record { next = omega arith; inside = h; all = a; filling = filling-start (omega arith) }
 
-  module _ (d : List Float) (p i : ℕ) (c : Column s base off w n d₀ d p i) where
+  module _ {d : List Float} {p i : ℕ} (c : Column s base off w n d₀ d p i) where
     pub column-long : length d ≡ length d₀
     column-long = c .filling .long
 
@@ -92,19 +92,19 @@ module _ (s : List ℕ) (base off w n : ℕ) (d₀ : List Float) where
         let e = c .all in
         omega arith
 
-    pub column-turn : (x : Float) → i < n → x ≡ realAt s p → Column s base off w n d₀ (set d i x) (p + w) (i + 1)
-    column-turn x h e =
+    pub column-turn : {x : Float} → i < n → x ≡ realAt s p → Column s base off w n d₀ (set d i x) (p + w) (i + 1)
+    column-turn h e =
         let l = length-rowAt realAt w s (base + off) n in
         record {
           next = let z = c .next in omega arith;
           inside = c .inside;
           all = c .all;
-          filling = filling-turn _ d₀ d i (c .filling) nan x (omega arith)
+          filling = filling-turn (c .filling) nan (omega arith)
               (e ∙ ap (realAt s) (c .next) ∙ sym (getD-rowAt realAt w s (base + off) n i nan h));
         }
 
     pub column-end : n ≤ i → d ≡ front (rowAt realAt w s (base + off) n) d₀
-    column-end h = let l = length-rowAt realAt w s (base + off) n in filling-end _ d₀ d i (c .filling) (omega arith)
+    column-end h = let l = length-rowAt realAt w s (base + off) n in filling-end (c .filling) (omega arith)
 
 -- ---- which columns of the record these are
 

@@ -25,43 +25,43 @@ pub record Adding (s : List ℕ) (total k : ℕ) : Type 0 where
   pub is : total ≡ start s k
   pub small : total ≤ 65535 * k
 
-module _ (s : List ℕ) where
+module _ {s : List ℕ} where
   pub add-start : Adding s 0 0
   unfolding start
   add-start = record { far = omega arith; is = refl; small = omega arith }
 
-  pub add-turn : (total n k : ℕ) → Adding s total k → k < loops s → n ≡ count s k → n < 65536 → Adding s (total + n) (k + 1)
-  add-turn total n k a h e l = record { far = omega arith; is = start-next s total n k (a .is) e; small = let z = a .small in omega arith }
+  pub add-turn : {total n k : ℕ} → Adding s total k → k < loops s → n ≡ count s k → n < 65536 → Adding s (total + n) (k + 1)
+  add-turn {total} {n} {k} a h e l = record { far = omega arith; is = start-next s total n k (a .is) e; small = let z = a .small in omega arith }
 
-  pub add-end : (total k : ℕ) → Adding s total k → loops s ≤ k → total ≡ points s
-  add-end total k a h = let e : k ≡ loops s = let z = a .far in omega arith in a .is ∙ ap (start s) e
+  pub add-end : {total k : ℕ} → Adding s total k → loops s ≤ k → total ≡ points s
+  add-end {total} {k} a h = let e : k ≡ loops s = let z = a .far in omega arith in a .is ∙ ap (start s) e
 
 -- ---- 3 and the halves of 6, where the code has the numbers l and n
 
 module _ (s : List ℕ) where
-  pub many-loops : (l : ℕ) → l ≡ loops s → maxLoops < l → at l ≡ tooManyLoops s
+  pub many-loops : {l : ℕ} → l ≡ loops s → maxLoops < l → at l ≡ tooManyLoops s
   unfolding tooManyLoops
-  many-loops l e h = rw (e, lt-ltb maxLoops (loops s) (omega arith))
+  many-loops e h = rw (e, lt-ltb maxLoops (loops s) (omega arith))
 
-  pub few-loops : (l : ℕ) → l ≡ loops s → l ≤ maxLoops → nowhere ≡ tooManyLoops s
+  pub few-loops : {l : ℕ} → l ≡ loops s → l ≤ maxLoops → nowhere ≡ tooManyLoops s
   unfolding tooManyLoops
-  few-loops l e h = rw (le-ltb maxLoops (loops s) (omega arith))
+  few-loops e h = rw (le-ltb maxLoops (loops s) (omega arith))
 
-  pub in-counts : (n : ℕ) → n ≡ headerSize + 2 * loops s → length s < n → at n ≡ endsInCounts s
+  pub in-counts : {n : ℕ} → n ≡ headerSize + 2 * loops s → length s < n → at n ≡ endsInCounts s
   unfolding endsInCounts
-  in-counts n e h = rw (e, lt-ltb (length s) (headerSize + 2 * loops s) (omega arith))
+  in-counts e h = rw (e, lt-ltb (length s) (headerSize + 2 * loops s) (omega arith))
 
-  pub past-counts : (n : ℕ) → n ≡ headerSize + 2 * loops s → n ≤ length s → nowhere ≡ endsInCounts s
+  pub past-counts : {n : ℕ} → n ≡ headerSize + 2 * loops s → n ≤ length s → nowhere ≡ endsInCounts s
   unfolding endsInCounts
-  past-counts n e h = rw (le-ltb (length s) (headerSize + 2 * loops s) (omega arith))
+  past-counts e h = rw (le-ltb (length s) (headerSize + 2 * loops s) (omega arith))
 
-  pub bad-length : (n : ℕ) → n ≡ needed s → (length s ≡ n → ⊥) → at n ≡ wrongLength s
+  pub bad-length : {n : ℕ} → n ≡ needed s → (length s ≡ n → ⊥) → at n ≡ wrongLength s
   unfolding wrongLength
-  bad-length n e h = rw (e, ne-eqb (length s) (needed s) (λ q. h (q ∙ sym e)))
+  bad-length e h = rw (e, ne-eqb (length s) (needed s) (λ q. h (q ∙ sym e)))
 
-  pub good-length : (n : ℕ) → n ≡ needed s → length s ≡ n → nowhere ≡ wrongLength s
+  pub good-length : {n : ℕ} → n ≡ needed s → length s ≡ n → nowhere ≡ wrongLength s
   unfolding wrongLength
-  good-length n e h = rw (eq-eqb (length s) (needed s) (h ∙ e))
+  good-length e h = rw (eq-eqb (length s) (needed s) (h ∙ e))
 
 -- ---- what is known where a condition does not hold
 
@@ -87,17 +87,17 @@ module _ (s : List ℕ) where
 abbrev pub fewAt : List ℕ → ℕ → Bool
 fewAt s k = count s k <? minPoints
 
-module _ (s : List ℕ) (k : ℕ) (w : Seeking (fewAt s) (loops s) k) where
-  pub few-found : (n : ℕ) → k < loops s → n ≡ count s k → n < minPoints → at k ≡ tooFewPoints s
+module _ (s : List ℕ) {k : ℕ} (w : Seeking (fewAt s) (loops s) k) where
+  pub few-found : {n : ℕ} → k < loops s → n ≡ count s k → n < minPoints → at k ≡ tooFewPoints s
   unfolding tooFewPoints
-  few-found n h e l = seek-found (fewAt s) (loops s) k w h (lt-ltb (count s k) minPoints (omega arith))
+  few-found h e l = seek-found w h (lt-ltb (count s k) minPoints (omega arith))
 
-  pub few-turn : (n : ℕ) → k < loops s → n ≡ count s k → minPoints ≤ n → Seeking (fewAt s) (loops s) (k + 1)
-  few-turn n h e l = seek-turn (fewAt s) (loops s) k w h (le-ltb (count s k) minPoints (omega arith))
+  pub few-turn : {n : ℕ} → k < loops s → n ≡ count s k → minPoints ≤ n → Seeking (fewAt s) (loops s) (k + 1)
+  few-turn h e l = seek-turn w h (le-ltb (count s k) minPoints (omega arith))
 
   pub few-end : loops s ≤ k → nowhere ≡ tooFewPoints s
   unfolding tooFewPoints
-  few-end h = seek-end (fewAt s) (loops s) k w h
+  few-end h = seek-end w h
 
 -- ---- 5
 
@@ -110,29 +110,29 @@ pub record Totalling (s : List ℕ) (total k : ℕ) : Type 0 where
   pub small : total ≤ maxPoints
   pub seeking : Seeking (manyAt s) (loops s) k
 
-pub total-start : (s : List ℕ) → Totalling s 0 0
+pub total-start : {s : List ℕ} → Totalling s 0 0
 unfolding start
-total-start s = record { is = refl; small = omega arith; seeking = seek-start (manyAt s) (loops s) }
+total-start = record { is = refl; small = omega arith; seeking = seek-start }
 
-module _ (s : List ℕ) (total k : ℕ) (w : Totalling s total k) where
-  passed : (n : ℕ) → n ≡ count s k → total + n ≡ start s (suc k)
-  passed n e = start-next s total n k (w .is) e ∙ ap (start s) (add-one k)
+module _ {s : List ℕ} {total k : ℕ} (w : Totalling s total k) where
+  passed : {n : ℕ} → n ≡ count s k → total + n ≡ start s (suc k)
+  passed {n} e = start-next s total n k (w .is) e ∙ ap (start s) (add-one k)
 
-  pub total-found : (n : ℕ) → k < loops s → n ≡ count s k → maxPoints < total + n → at k ≡ tooManyPoints s
+  pub total-found : {n : ℕ} → k < loops s → n ≡ count s k → maxPoints < total + n → at k ≡ tooManyPoints s
   unfolding tooManyPoints
-  total-found n h e l =
-      let q = passed n e in
-      seek-found (manyAt s) (loops s) k (w .seeking) h (lt-ltb maxPoints (start s (suc k)) (omega arith))
+  total-found h e l =
+      let q = passed e in
+      seek-found (w .seeking) h (lt-ltb maxPoints (start s (suc k)) (omega arith))
 
-  pub total-turn : (n : ℕ) → k < loops s → n ≡ count s k → total + n ≤ maxPoints → Totalling s (total + n) (k + 1)
-  total-turn n h e l =
-      let q = passed n e in
+  pub total-turn : {n : ℕ} → k < loops s → n ≡ count s k → total + n ≤ maxPoints → Totalling s (total + n) (k + 1)
+  total-turn {n} h e l =
+      let q = passed e in
       record {
         is = start-next s total n k (w .is) e;
         small = l;
-        seeking = seek-turn (manyAt s) (loops s) k (w .seeking) h (le-ltb maxPoints (start s (suc k)) (omega arith));
+        seeking = seek-turn (w .seeking) h (le-ltb maxPoints (start s (suc k)) (omega arith));
       }
 
   pub total-end : loops s ≤ k → nowhere ≡ tooManyPoints s
   unfolding tooManyPoints
-  total-end h = seek-end (manyAt s) (loops s) k (w .seeking) h
+  total-end h = seek-end (w .seeking) h

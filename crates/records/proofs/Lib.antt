@@ -6,7 +6,10 @@ pub mod Rows
 pub mod Ranges
 pub mod Reals
 pub mod Accepted
+pub mod Prefix
+pub mod Places
 pub mod Columns
 pub mod Reading
 pub mod RoundTrip
 pub mod Pieces
+pub mod Closing

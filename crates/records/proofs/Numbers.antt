@@ -22,12 +22,12 @@ pub record Reading (s : List ℕ) (p w n i : ℕ) : Type 0 where
   pub is : n ≡ numberAt (w - i) s (p + i)
   pub low : n < 256 ^ (w - i)
 
-module _ (s : List ℕ) (p w : ℕ) where
+module _ {s : List ℕ} {p w : ℕ} where
   pub reading-start : w ≤ 8 → Reading s p w 0 w
   unfolding number numberAt
   reading-start h = let e : w - w ≡ 0 = omega arith in record { far = omega arith; few = h; is = rw e; low = rw e (omega arith) }
 
-  module _ (n i : ℕ) (r : Reading s p w n i) where
+  module _ {n i : ℕ} (r : Reading s p w n i) where
     -- one more byte has room in 64 bits
     pub room : 0 < i → n < 2 ^ 56
     room h =
@@ -37,8 +37,8 @@ module _ (s : List ℕ) (p w : ℕ) where
         let m : 256 ^ (w - i) ≤ 256 ^ 7 = pow-le-pow-right (omega arith) k in
         omega arith
 
-    pub reading-turn : (b : ℕ) → 0 < i → b ≡ getD s (p + (i - 1)) 0 → b < 256 → Reading s p w (256 * n + b) (i - 1)
-    reading-turn b h e l =
+    pub reading-turn : {b : ℕ} → 0 < i → b ≡ getD s (p + (i - 1)) 0 → b < 256 → Reading s p w (256 * n + b) (i - 1)
+    reading-turn {b} h e l =
         let f = r .far in
         let k : w - (i - 1) ≡ suc (w - i) = omega arith in
         let q : suc (p + (i - 1)) ≡ p + i = omega arith in

@@ -21,13 +21,13 @@ pub record Scan (s : List ℕ) (first m k p j : ℕ) : Type 0 where
   pub is-place : p ≡ realPlace s first
   pub seeking : Seeking (λ i. badReal s (first + i)) m j
 
-module _ (s : List ℕ) (first m k p : ℕ) where
+module _ {s : List ℕ} {first m k p : ℕ} where
   pub scan-start : k ≡ kind s → p ≡ realPlace s first → Scan s first m k p 0
-  scan-start e f = record { is-kind = e; is-place = f; seeking = seek-start _ m }
+  scan-start e f = record { is-kind = e; is-place = f; seeking = seek-start }
 
-  module _ (j : ℕ) (w : Scan s first m k p j) where
+  module _ {j : ℕ} (w : Scan s first m k p j) where
     -- x is real j of the part, R its range, and h says whether x is in it
-    module _ (h : Bool) (x : Float) (R : Range) (l : j < m) (ex : x ≡ realAt s (p + 8 * j)) (eh : h ≡ holds R x) (er : range (kind s) (points s) (first + j) ≡ R) where
+    module _ {h : Bool} {x : Float} {R : Range} (l : j < m) (ex : x ≡ realAt s (p + 8 * j)) (eh : h ≡ holds R x) (er : range (kind s) (points s) (first + j) ≡ R) where
       tested : badReal s (first + j) ≡ not h
       unfolding badReal
       tested =
@@ -36,20 +36,20 @@ module _ (s : List ℕ) (first m k p : ℕ) where
 
       pub scan-found : h ≡ false → at j ≡ badFrom s first m
       unfolding badFrom
-      scan-found e = seek-found _ m j (w .seeking) l (tested ∙ ap not e)
+      scan-found e = seek-found (w .seeking) l (tested ∙ ap not e)
 
       pub scan-turn : h ≡ true → Scan s first m k p (j + 1)
-      scan-turn e = record { is-kind = w .is-kind; is-place = w .is-place; seeking = seek-turn _ m j (w .seeking) l (tested ∙ ap not e) }
+      scan-turn e = record { is-kind = w .is-kind; is-place = w .is-place; seeking = seek-turn (w .seeking) l (tested ∙ ap not e) }
 
     pub scan-end : m ≤ j → nowhere ≡ badFrom s first m
     unfolding badFrom
-    scan-end l = seek-end _ m j (w .seeking) l
+    scan-end l = seek-end (w .seeking) l
 
     pub head-range : j < headReals → range (kind s) (points s) (0 + j) ≡ headRange k j
     head-range l = let e : 0 + j ≡ j = omega arith in rw (e, w .is-kind) (range-head (kind s) (points s) j l)
 
-    pub uv-range : (n : ℕ) → n ≡ points s → j < 2 * n → range (kind s) (points s) (headReals + j) ≡ uvRange k j
-    uv-range n e l = rw (w .is-kind) (range-uv (kind s) (points s) j (omega arith))
+    pub uv-range : {n : ℕ} → n ≡ points s → j < 2 * n → range (kind s) (points s) (headReals + j) ≡ uvRange k j
+    uv-range e l = rw (w .is-kind) (range-uv (kind s) (points s) j (omega arith))
 
 pub xyz-range : (s : List ℕ) (j n : ℕ) → n ≡ points s → range (kind s) (points s) (headReals + 2 * n + j) ≡ xyzRange
 xyz-range s j n e = rw e (range-xyz (kind s) (points s) j)

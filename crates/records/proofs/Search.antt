@@ -156,11 +156,11 @@ pub record Seeking (test : ℕ → Bool) (n k : ℕ) : Type 0 where
   pub far : k ≤ n
   pub is : firstWhere n test ≡ firstFrom test k (n - k)
 
-module _ (test : ℕ → Bool) (n : ℕ) where
+module _ {test : ℕ → Bool} {n : ℕ} where
   pub seek-start : Seeking test n 0
   seek-start = let e : n - 0 ≡ n = omega arith in record { far = omega arith; is = rw e }
 
-  module _ (k : ℕ) (s : Seeking test n k) where
+  module _ {k : ℕ} (s : Seeking test n k) where
     -- what stands at k, and the rest
     ahead : k < n → firstWhere n test ≡ cond (test k) (at k) (firstFrom test (k + 1) (n - (k + 1)))
     unfolding firstFrom
@@ -178,8 +178,8 @@ module _ (test : ℕ → Bool) (n : ℕ) where
 
 -- ---- an answer of the code, where a match has told which it is
 
-pub not-found : (r : Found) (p : Place) → placeOf r ≡ p → r ≡ Nowhere → p ≡ nowhere
-not-found r p e f = sym e ∙ ap placeOf f
+pub not-found : {r : Found} {p : Place} → placeOf r ≡ p → r ≡ Nowhere → p ≡ nowhere
+not-found e f = sym e ∙ ap placeOf f
 
-pub found : (r : Found) (p : Place) (k : ℕ) → placeOf r ≡ p → r ≡ At k → p ≡ at k
-found r p k e f = sym e ∙ ap placeOf f
+pub found : {r : Found} {p : Place} {k : ℕ} → placeOf r ≡ p → r ≡ At k → p ≡ at k
+found e f = sym e ∙ ap placeOf f

@@ -8,3 +8,4 @@ pub mod Call
 pub mod Parts
 pub mod Lent
 pub mod Answers
+pub mod Values

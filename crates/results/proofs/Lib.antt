@@ -3,3 +3,4 @@ pub mod Columns
 pub mod Rows
 pub mod Sizes
 pub mod Whole
+pub mod Given

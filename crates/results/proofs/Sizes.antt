@@ -20,27 +20,27 @@ pub record Summing (counts : List ℕ) (corners i : ℕ) : Type 0 where
   pub is : sum counts ≡ corners + sum (drop i counts)
   pub short : allShort counts ≡ allShort (drop i counts)
 
-module _ (counts : List ℕ) where
-  pub sum-start : Summing counts 0 0
-  sum-start = record { far = omega arith; small = omega arith; is = omega arith; short = refl }
+pub sum-start : {counts : List ℕ} → Summing counts 0 0
+sum-start = record { far = omega arith; small = omega arith; is = omega arith; short = refl }
 
+module _ (counts : List ℕ) where
   no-loop : length counts < 1 → TooLarge ≡ sizeOf counts
   unfolding sizeOf headerHolds
   no-loop h = rw (lt-leb 1 (length counts) h)
 
-  pub none : (n : ℕ) → n ≡ length counts → n < 1 → TooLarge ≡ sizeOf counts
-  none n e h = no-loop (omega arith)
+  pub none : {n : ℕ} → n ≡ length counts → n < 1 → TooLarge ≡ sizeOf counts
+  none e h = no-loop (omega arith)
 
-  pub too-many : (n : ℕ) → n ≡ length counts → 1 ≤ n → 256 < n → TooLarge ≡ sizeOf counts
+  pub too-many : {n : ℕ} → n ≡ length counts → 1 ≤ n → 256 < n → TooLarge ≡ sizeOf counts
   unfolding sizeOf headerHolds
-  too-many n e l h = rw (le-leb 1 (length counts) (omega arith), lt-leb (length counts) 256 (omega arith))
+  too-many e l h = rw (le-leb 1 (length counts) (omega arith), lt-leb (length counts) 256 (omega arith))
 
-  module _ (corners i : ℕ) (s : Summing counts corners i) where
+  module _ {corners i : ℕ} (s : Summing counts corners i) where
     -- the count at i, and the rest
     ahead : i < length counts → drop i counts ≡ getD counts i 0 ∷ drop (i + 1) counts
     ahead h = rw (add-one i, drop-cons counts i 0 h)
 
-    module _ (n : ℕ) (e : n ≡ length counts) (some : 1 ≤ n) (few : n ≤ 256) where
+    module _ {n : ℕ} (e : n ≡ length counts) (some : 1 ≤ n) (few : n ≤ 256) where
       pub too-long : i < n → 65535 < getD counts i 0 → TooLarge ≡ sizeOf counts
       unfolding sizeOf headerHolds allShort
       too-long h l =

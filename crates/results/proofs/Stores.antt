@@ -25,14 +25,14 @@ pub record Putting (out₀ : List ℕ) (p w n : ℕ) (out : List ℕ) (rest i : 
   pub long : length out ≡ length out₀
   pub is : sets out (p + i) (bytes (w - i) rest) ≡ sets out₀ p (bytes w n)
 
-module _ (out₀ : List ℕ) (p w n : ℕ) where
+module _ {out₀ : List ℕ} {p w n : ℕ} where
   pub put-start : p + w ≤ length out₀ → Putting out₀ p w n out₀ n 0
   put-start h =
       let e : p + 0 ≡ p = omega arith in
       let f : w - 0 ≡ w = omega arith in
       record { far = omega arith; room = h; long = refl; is = rw (e, f) }
 
-  module _ (out : List ℕ) (rest i : ℕ) (s : Putting out₀ p w n out rest i) where
+  module _ {out : List ℕ} {rest i : ℕ} (s : Putting out₀ p w n out rest i) where
     pub put-turn : i < w → Putting out₀ p w n (set out (p + i) (rest % 256)) (rest / 256) (i + 1)
     unfolding bytes
     put-turn h =
@@ -57,18 +57,18 @@ pub record Storing {A : Type 0} (write : A → List ℕ) (w : ℕ) (out₀ : Lis
   pub long : length out ≡ length out₀
   pub is : sets out (p + w * i) (row write (drop i xs)) ≡ sets out₀ p (row write xs)
 
-module _ {A : Type 0} {one : List ℕ → ℕ → A} {write : A → List ℕ} {w : ℕ} {Ok : A → Type 0} (c : Codes one write w Ok) (out₀ : List ℕ) (p : ℕ) (xs : List A) where
+module _ {A : Type 0} {one : List ℕ → ℕ → A} {write : A → List ℕ} {w : ℕ} {Ok : A → Type 0} (c : Codes one write w Ok) {out₀ : List ℕ} {p : ℕ} {xs : List A} where
   pub store-start : Storing write w out₀ p xs out₀ 0
   store-start = let e : p + w * 0 ≡ p = omega arith in record { long = refl; is = rw e }
 
-  module _ (out : List ℕ) (i : ℕ) (r : Storing write w out₀ p xs out i) where
+  module _ {out : List ℕ} {i : ℕ} (r : Storing write w out₀ p xs out i) where
     -- what is left begins with thing i
     left : (d : A) → i < length xs → row write (drop i xs) ≡ write (getD xs i d) ++ row write (drop (i + 1) xs)
     unfolding row
     left d h = rw (add-one i, drop-cons xs i d h)
 
-    pub store-turn : (out′ : List ℕ) (d : A) → i < length xs → out′ ≡ sets out (p + w * i) (write (getD xs i d)) → Storing write w out₀ p xs out′ (i + 1)
-    store-turn out′ d h e =
+    pub store-turn : {out′ : List ℕ} (d : A) → i < length xs → out′ ≡ sets out (p + w * i) (write (getD xs i d)) → Storing write w out₀ p xs out′ (i + 1)
+    store-turn d h e =
         let a = getD xs i d in
         let q : p + w * (i + 1) ≡ p + w * i + length (write a) = let z = c .wide a in omega arith in
         record {

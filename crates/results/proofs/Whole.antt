@@ -23,7 +23,7 @@ use Rattle.results.proofs.Columns.{length-pairs, length-triples}
 
 -- ---- the parts
 
-module _ (out counts : List ℕ) (areas : List Float) (m : ℕ) (u v x y z : List Float) (w : Fitting out counts areas m u v x y z) where
+module _ {out counts : List ℕ} {areas : List Float} {m : ℕ} {u v x y z : List Float} (w : Fitting out counts areas m u v x y z) where
   -- the front of a column
   front-long : (l : List Float) → m ≤ length l → length (take m l) ≡ sum counts
   front-long l h = length-take-le m l h ∙ w .corners
@@ -52,6 +52,16 @@ module _ (out counts : List ℕ) (areas : List Float) (m : ℕ) (u v x y z : Lis
   pub z-as-x : length (take m z) ≡ length (take m x)
   z-as-x = as-z ∙ sym as-x
 
+  -- how many areas, parameters and positions there are
+  pub area-each : length (take (length counts) areas) ≡ length counts
+  area-each = length-take-le (length counts) areas (w .an-area-each)
+
+  pub pair-each : length (pairs (take m u) (take m v)) ≡ sum counts
+  pair-each = length-pairs (take m u) (take m v) v-as-u ∙ as-u
+
+  pub position-each : length (triples (take m x) (take m y) (take m z)) ≡ sum counts
+  position-each = length-triples (take m x) (take m y) (take m z) y-as-x z-as-x ∙ as-x
+
   abbrev n : ℕ
   n = length counts
 
@@ -71,21 +81,19 @@ module _ (out counts : List ℕ) (areas : List Float) (m : ℕ) (u v x y z : Lis
   size-C = length-row codes-u16 counts
 
   size-A : length A ≡ 8 * n
-  size-A = length-row codes-real (take n areas) ∙ ap (λ (k : ℕ). 8 * k) (length-take-le n areas (w .an-area-each))
+  size-A = length-row codes-real (take n areas) ∙ ap (λ (k : ℕ). 8 * k) area-each
 
   size-P : length P ≡ 16 * m
-  size-P = length-row codes-uv (pairs (take m u) (take m v))
-      ∙ ap (λ (k : ℕ). 16 * k) (length-pairs (take m u) (take m v) v-as-u ∙ as-u ∙ sym (w .corners))
+  size-P = length-row codes-uv (pairs (take m u) (take m v)) ∙ ap (λ (k : ℕ). 16 * k) (pair-each ∙ sym (w .corners))
 
   size-X : length X ≡ 24 * m
-  size-X = length-row codes-xyz (triples (take m x) (take m y) (take m z))
-      ∙ ap (λ (k : ℕ). 24 * k) (length-triples (take m x) (take m y) (take m z) y-as-x z-as-x ∙ as-x ∙ sym (w .corners))
+  size-X = length-row codes-xyz (triples (take m x) (take m y) (take m z)) ∙ ap (λ (k : ℕ). 24 * k) (position-each ∙ sym (w .corners))
 
   -- a, b, c, d, e are the lent bytes after the header and after each row
-  pub whole : (path : ℕ) (a b c d e : List ℕ) → a ≡ sets out 0 (1 ∷ path ∷ (n - 1) ∷ 0 ∷ []) → b ≡ sets a 4 C → c ≡ sets b (4 + 2 * n) A
+  pub whole : (path : ℕ) {a b c d e : List ℕ} → a ≡ sets out 0 (1 ∷ path ∷ (n - 1) ∷ 0 ∷ []) → b ≡ sets a 4 C → c ≡ sets b (4 + 2 * n) A
       → d ≡ sets c (4 + 10 * n) P → e ≡ sets d (4 + 10 * n + 16 * m) X → e ≡ front (encode (lentResult path counts areas u v x y z)) out
   unfolding encode lentResult
-  whole path a b c d e ea eb ec ed ee =
+  whole path {a} {b} {c} {d} {e} ea eb ec ed ee =
       let start : List ℕ = 1 ∷ path ∷ (n - 1) ∷ 0 ∷ [] in
       let sc = size-C in
       let sa = size-A in
@@ -103,97 +111,85 @@ module _ (out counts : List ℕ) (areas : List Float) (m : ℕ) (u v x y z : Lis
       let named : all ≡ encode (lentResult path counts areas u v x y z) = rw (w .corners) in
       whole-is ∙ sets-eq all out 0 (omega arith) ∙ ap (λ (k : ℕ). all ++ drop k out) g ∙ ap (λ (r : List ℕ). front r out) named
 
--- ---- what the writer answers
+-- ---- bools
 
 and-right : (a b : Bool) → b ≡ false → (a && b) ≡ false
 and-right true b e = e
 and-right false b e = refl
 
-and-fst : (a b : Bool) → (a && b) ≡ true → a ≡ true
+pub and-fst : (a b : Bool) → (a && b) ≡ true → a ≡ true
 and-fst true b e = refl
 and-fst false b e = e
 
-and-snd : (a b : Bool) → (a && b) ≡ true → b ≡ true
+pub and-snd : (a b : Bool) → (a && b) ≡ true → b ≡ true
 and-snd true b e = e
 and-snd false b e = absurd (true≢false (sym e))
 
-module _ (path : Path) (counts : List ℕ) (areas u v x y z : List Float) (out : List ℕ) where
-  abbrev room : ℕ
-  room = least5 (length u) (length v) (length x) (length y) (length z)
+-- ---- what the writer answers
 
-  abbrev fits : Bool
-  fits = resultFits counts (length areas) room (length out)
+-- `result_size` has given m corners and n bytes
+pub record Sized (counts : List ℕ) (m n : ℕ) : Type 0 where
+  pub held : headerHolds counts ≡ true
+  pub corners : m ≡ sum counts
+  pub long : n ≡ lengthOf counts
 
-  kept : fits ≡ false → WrittenTo path counts areas u v x y z out out Refused
+pub sized : {counts : List ℕ} {m n : ℕ} (s : Size) → s ≡ Takes m n → s ≡ sizeOf counts → Sized counts m n
+unfolding sizeOf
+sized {counts} {m} {n} s f e = go (headerHolds counts) refl (sym f ∙ e)
+  where
+    go : (b : Bool) → headerHolds counts ≡ b → Takes m n ≡ cond b (Takes (sum counts) (lengthOf counts)) TooLarge → Sized counts m n
+    go true h q = record { held = h; corners = cc; long = cc }
+    go false h q = let z : _≡_ {A = ℕ} 0 1 = cc in absurd (omega arith)
+
+-- behind the last test, with r the shortest of the columns
+pub fitting : {out counts : List ℕ} {areas u v x y z : List Float} {m n r : ℕ} → Sized counts m n → n ≤ length out → length counts ≤ length areas
+    → r ≡ least5 (length u) (length v) (length x) (length y) (length z) → m ≤ r → Fitting out counts areas m u v x y z
+unfolding headerHolds
+fitting {counts = counts} s h a q l = record {
+  outer = leb-true 1 (length counts) (and-fst (1 ≤? length counts) _ (s .held));
+  few = leb-true (length counts) 256 (and-fst (length counts ≤? 256) _ (and-snd (1 ≤? length counts) _ (s .held)));
+  corners = s .corners;
+  an-area-each = a;
+  room = rw q at l;
+  long = rw (s .long) at h;
+}
+
+abbrev fits : (counts : List ℕ) (areas u v x y z : List Float) (out : List ℕ) → Bool
+fits counts areas u v x y z out = resultFits counts (length areas) (least5 (length u) (length v) (length x) (length y) (length z)) (length out)
+
+module _ {path : Path} {counts : List ℕ} {areas u v x y z : List Float} {out : List ℕ} where
+  kept : fits counts areas u v x y z out ≡ false → WrittenTo path counts areas u v x y z out out Refused
   unfolding writtenIf filledIf
   kept e = record { answer = rw e; is = rw e }
 
-  -- `result_size` has refused the counts
-  pub too-large : TooLarge ≡ sizeOf counts → WrittenTo path counts areas u v x y z out out Refused
+  pub too-large : (s : Size) → s ≡ TooLarge → s ≡ sizeOf counts → WrittenTo path counts areas u v x y z out out Refused
   unfolding sizeOf resultFits
-  too-large e = kept (go (headerHolds counts) e)
+  too-large s f e = kept (go (headerHolds counts) (sym f ∙ e))
     where
       go : (b : Bool) → TooLarge ≡ cond b (Takes (sum counts) (lengthOf counts)) TooLarge
-          → (b && ((lengthOf counts ≤? length out) && ((length counts ≤? length areas) && (sum counts ≤? room)))) ≡ false
+          → (b && ((lengthOf counts ≤? length out) && ((length counts ≤? length areas) && (sum counts ≤? least5 (length u) (length v) (length x) (length y) (length z))))) ≡ false
       go false e = refl
       go true e = let q : _≡_ {A = ℕ} 0 1 = cc in absurd (omega arith)
 
-  -- `result_size` has given m corners and n bytes
-  module _ (m n : ℕ) (e : Takes m n ≡ sizeOf counts) where
-    pub held : headerHolds counts ≡ true
-    unfolding sizeOf
-    held = go (headerHolds counts) e
-      where
-        go : (b : Bool) → Takes m n ≡ cond b (Takes (sum counts) (lengthOf counts)) TooLarge → b ≡ true
-        go true e = refl
-        go false e = let q : _≡_ {A = ℕ} 0 1 = cc in absurd (omega arith)
-
-    given : Takes m n ≡ Takes (sum counts) (lengthOf counts)
-    unfolding sizeOf
-    given = e ∙ rw held
-
-    pub corners : m ≡ sum counts
-    corners = let g = given in cc
-
-    pub long : n ≡ lengthOf counts
-    long = let g = given in cc
-
-    header-outer : 1 ≤ length counts
-    unfolding headerHolds
-    header-outer = leb-true 1 (length counts) (and-fst (1 ≤? length counts) _ held)
-
-    header-few : length counts ≤ 256
-    unfolding headerHolds
-    header-few = leb-true (length counts) 256 (and-fst (length counts ≤? 256) _ (and-snd (1 ≤? length counts) _ held))
-
+  module _ {m n : ℕ} (s : Sized counts m n) where
     pub short-out : length out < n → WrittenTo path counts areas u v x y z out out Refused
     unfolding resultFits
-    short-out h = let l = long in kept (and-right (headerHolds counts) _ (rw (lt-leb (lengthOf counts) (length out) (omega arith))))
+    short-out h = let l = s .long in kept (and-right (headerHolds counts) _ (rw (lt-leb (lengthOf counts) (length out) (omega arith))))
 
     pub short-areas : length areas < length counts → WrittenTo path counts areas u v x y z out out Refused
     unfolding resultFits
     short-areas h = kept (and-right (headerHolds counts) _ (and-right (lengthOf counts ≤? length out) _ (rw (lt-leb (length counts) (length areas) h))))
 
-    pub short-columns : (r : ℕ) → r ≡ room → r < m → WrittenTo path counts areas u v x y z out out Refused
+    pub short-columns : {r : ℕ} → r ≡ least5 (length u) (length v) (length x) (length y) (length z) → r < m → WrittenTo path counts areas u v x y z out out Refused
     unfolding resultFits
-    short-columns r q h =
-        let c = corners in
-        kept (and-right (headerHolds counts) _ (and-right (lengthOf counts ≤? length out) _ (and-right (length counts ≤? length areas) _ (lt-leb (sum counts) room (omega arith)))))
+    short-columns {r} q h =
+        let l : least5 (length u) (length v) (length x) (length y) (length z) < sum counts = rw (q, s .corners) at h in
+        kept (and-right (headerHolds counts) _ (and-right (lengthOf counts ≤? length out) _ (and-right (length counts ≤? length areas) _ (lt-leb (sum counts) _ l))))
 
-    -- behind the last test
-    pub fitting : n ≤ length out → length counts ≤ length areas → (r : ℕ) → r ≡ room → m ≤ r → Fitting out counts areas m u v x y z
-    fitting h a r q l = record {
-      outer = header-outer;
-      few = header-few;
-      corners = corners;
-      an-area-each = a;
-      room = rw q at l;
-      long = rw long at h;
-    }
-
-    pub done : Fitting out counts areas m u v x y z → (out′ : List ℕ) (p : ℕ) → p ≡ pathOf path → out′ ≡ front (encode (lentResult p counts areas u v x y z)) out
-        → WrittenTo path counts areas u v x y z out out′ (Length n)
+    pub done : Fitting out counts areas m u v x y z → {out′ : List ℕ} {p : ℕ} → p ≡ pathOf path
+        → out′ ≡ front (encode (lentResult p counts areas u v x y z)) out → WrittenTo path counts areas u v x y z out out′ (Length n)
     unfolding writtenIf filledIf resultFits
-    done w out′ p ep eo =
-        let all : fits ≡ true = rw (held, le-leb (lengthOf counts) (length out) (w .long), le-leb (length counts) (length areas) (w .an-area-each), le-leb (sum counts) room (rw corners at (w .room))) in
-        record { answer = rw (all, long); is = rw all (eo ∙ rw ep) }
+    done w ep eo =
+        let all : fits counts areas u v x y z out ≡ true =
+        rw (s .held, le-leb (lengthOf counts) (length out) (w .long), le-leb (length counts) (length areas) (w .an-area-each), le-leb (sum counts) _ (rw (w .corners) at (w .room))) in
+        record { answer = rw (all, s .long); is = rw all (eo ∙ rw ep) }

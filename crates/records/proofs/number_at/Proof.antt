@@ -15,7 +15,7 @@ abbrev μ-loop : tie.MeasureT-loop
 
 -- src/lib.rt:33:5
 loop-holds : tie.Need-loop-holds Inv-loop μ-loop
-loop-holds c = numbers.reading-start _ _ _ (c .before .pre .0)
+loop-holds c = numbers.reading-start (c .before .pre .0)
 
 -- src/lib.rt:34:9
 sub-i : tie.Need-sub-i Inv-loop μ-loop
@@ -23,7 +23,7 @@ sub-i c = omega arith
 
 -- src/lib.rt:35:13
 mul-n : tie.Need-mul-n Inv-loop μ-loop
-mul-n c = let k = numbers.room _ _ _ _ _ (c .before .loop .inv) (c .loop-test .taken) in omega arith
+mul-n c = let k = numbers.room (c .before .loop .inv) (c .loop-test .taken) in omega arith
 
 -- src/lib.rt:35:30
 add-wide : tie.Need-add-wide Inv-loop μ-loop
@@ -39,7 +39,7 @@ wide-requires c κs = search needs
 
 -- src/lib.rt:35:13
 add-n : tie.Need-add-n Inv-loop μ-loop
-add-n c = let k = numbers.room _ _ _ _ _ (c .before .before .before .loop .inv) (c .before .before .loop-test .taken) in omega arith
+add-n c = let k = numbers.room (c .before .before .before .loop .inv) (c .before .before .loop-test .taken) in omega arith
 
 -- src/lib.rt:33:5
 loop-less : tie.Need-loop-less Inv-loop μ-loop
@@ -47,11 +47,11 @@ loop-less c = omega arith
 
 -- src/lib.rt:33:5
 loop-again : tie.Need-loop-again Inv-loop μ-loop
-loop-again c = numbers.reading-turn _ _ _ _ _ (c .before .before .before .loop .inv) _ (c .before .before .loop-test .taken) (c .wide .ensures .0) (c .wide .ensures .1)
+loop-again c = numbers.reading-turn (c .before .before .before .loop .inv) (c .before .before .loop-test .taken) (c .wide .ensures .0) (c .wide .ensures .1)
 
 -- src/lib.rt:27:1
 returns : tie.Need-returns Inv-loop μ-loop
-returns c = numbers.reading-end _ _ _ _ _ (c .before .loop .inv) (c .loop-test .left)
+returns c = numbers.reading-end (c .before .loop .inv) (c .loop-test .left)
 
 pub number-at-spec : {M : Type 1} → statement M
 number-at-spec =

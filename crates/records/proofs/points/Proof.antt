@@ -17,7 +17,7 @@ loops-requires : tie.Need-loops-requires Inv-loop μ-loop
 loops-requires c κs = search needs
 
 loop-holds : tie.Need-loop-holds Inv-loop μ-loop
-loop-holds c = (counting.add-start _, c .loops .ensures)
+loop-holds c = (counting.add-start, c .loops .ensures)
 
 count-at-requires : tie.Need-count-at-requires Inv-loop μ-loop
 count-at-requires c κs = search needs
@@ -33,10 +33,10 @@ loop-less c = omega arith
 
 loop-again : tie.Need-loop-again Inv-loop μ-loop
 loop-again c =
-    (counting.add-turn _ _ _ _ (c .before .before .loop .inv .0) (omega arith) (c .count-at .ensures .0) (c .count-at .ensures .1), c .before .before .loop .inv .1)
+    (counting.add-turn (c .before .before .loop .inv .0) (omega arith) (c .count-at .ensures .0) (c .count-at .ensures .1), c .before .before .loop .inv .1)
 
 returns : tie.Need-returns Inv-loop μ-loop
-returns c = (counting.add-end _ _ _ (c .before .loop .inv .0) (omega arith), omega arith)
+returns c = (counting.add-end (c .before .loop .inv .0) (omega arith), omega arith)
 
 pub points-spec : {M : Type 1} → statement M
 points-spec =

@@ -11,7 +11,7 @@ abbrev μ-loop : tie.MeasureT-loop
 μ-loop out₀ at w n rest₀ i₀ out rest i = w - i
 
 loop-holds : tie.Need-loop-holds Inv-loop μ-loop
-loop-holds c = stores.put-start _ _ _ _ (c .pre)
+loop-holds c = stores.put-start (c .pre)
 
 cast-out : tie.Need-cast-out Inv-loop μ-loop
 cast-out c = omega arith
@@ -29,13 +29,13 @@ loop-less : tie.Need-loop-less Inv-loop μ-loop
 loop-less c = omega arith
 
 loop-again : tie.Need-loop-again Inv-loop μ-loop
-loop-again c = stores.put-turn _ _ _ _ _ _ _ (c .before .loop .inv) (c .loop-test .taken)
+loop-again c = stores.put-turn (c .before .loop .inv) (c .loop-test .taken)
 
 same-length : tie.Need-same-length Inv-loop μ-loop
 same-length c = c .before .loop .inv .long
 
 returns : tie.Need-returns Inv-loop μ-loop
-returns c = stores.put-end _ _ _ _ _ _ _ (c .before .loop .inv) (c .loop-test .left)
+returns c = stores.put-end (c .before .loop .inv) (c .loop-test .left)
 
 pub put-spec : {M : Type 1} → statement M
 put-spec =

@@ -13,7 +13,7 @@ abbrev μ-loop : tie.MeasureT-loop
 μ-loop out₀ at counts i₀ out i = length counts - i
 
 loop-holds : tie.Need-loop-holds Inv-loop μ-loop
-loop-holds c = (omega arith, rows.counts-start _ _ _)
+loop-holds c = (omega arith, rows.counts-start)
 
 mul-put : tie.Need-mul-put Inv-loop μ-loop
 mul-put c = omega arith
@@ -38,13 +38,13 @@ loop-less c = omega arith
 
 loop-again : tie.Need-loop-again Inv-loop μ-loop
 loop-again c =
-    (omega arith, rows.counts-turn _ _ _ _ _ (c .before .before .before .before .before .before .loop .inv .1) _ (c .before .before .before .before .before .loop-test .taken) (c .before .before .put .ensures))
+    (omega arith, rows.counts-turn (c .before .before .before .before .before .before .loop .inv .1) (c .before .before .before .before .before .loop-test .taken) (c .before .before .put .ensures))
 
 same-length : tie.Need-same-length Inv-loop μ-loop
 same-length c = c .before .loop .inv .1 .long
 
 returns : tie.Need-returns Inv-loop μ-loop
-returns c = rows.counts-end _ _ _ _ _ (c .before .loop .inv .1) (c .loop-test .left)
+returns c = rows.counts-end (c .before .loop .inv .1) (c .loop-test .left)
 
 pub put-counts-spec : {M : Type 1} → statement M
 put-counts-spec =

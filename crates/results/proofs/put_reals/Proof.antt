@@ -13,7 +13,7 @@ abbrev μ-loop : tie.MeasureT-loop
 μ-loop out₀ at xs i₀ out i = length xs - i
 
 loop-holds : tie.Need-loop-holds Inv-loop μ-loop
-loop-holds c = (omega arith, rows.reals-start _ _ _)
+loop-holds c = (omega arith, rows.reals-start)
 
 mul-put : tie.Need-mul-put Inv-loop μ-loop
 mul-put c = omega arith
@@ -41,13 +41,13 @@ loop-less c = omega arith
 
 loop-again : tie.Need-loop-again Inv-loop μ-loop
 loop-again c =
-    (omega arith, rows.reals-turn _ _ _ _ _ (c .before .before .before .before .before .before .before .loop .inv .1) _ _ (c .before .before .before .before .before .before .loop-test .taken) (c .before .before .before .to-bits .ensures) (c .before .before .put .ensures))
+    (omega arith, rows.reals-turn (c .before .before .before .before .before .before .before .loop .inv .1) (c .before .before .before .before .before .before .loop-test .taken) (c .before .before .before .to-bits .ensures) (c .before .before .put .ensures))
 
 same-length : tie.Need-same-length Inv-loop μ-loop
 same-length c = c .before .loop .inv .1 .long
 
 returns : tie.Need-returns Inv-loop μ-loop
-returns c = rows.reals-end _ _ _ _ _ (c .before .loop .inv .1) (c .loop-test .left)
+returns c = rows.reals-end (c .before .loop .inv .1) (c .loop-test .left)
 
 pub put-reals-spec : {M : Type 1} → statement M
 put-reals-spec =

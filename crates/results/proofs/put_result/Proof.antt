@@ -43,7 +43,7 @@ slice-aggregate-put-pairs-2 c = simp length-take (omega arith)
 
 put-pairs-requires : tie.Need-put-pairs-requires
 put-pairs-requires c κs =
-    (simp length-take (omega arith), whole.v-as-u _ _ _ _ _ _ _ _ _ (c .before .before .before .before .before .before .before .before .before .before .before .before .before .before .before .before .before .before .before .before .before .before .before .before .pre))
+    (simp length-take (omega arith), whole.v-as-u (c .before .before .before .before .before .before .before .before .before .before .before .before .before .before .before .before .before .before .before .before .before .before .before .before .pre))
 
 mul-put-triples : tie.Need-mul-put-triples
 mul-put-triples c = search needs
@@ -68,14 +68,14 @@ slice-aggregate-put-triples-3 c = simp length-take (omega arith)
 
 put-triples-requires : tie.Need-put-triples-requires
 put-triples-requires c κs =
-    (simp length-take (omega arith), whole.y-as-x _ _ _ _ _ _ _ _ _ (c .before .before .before .before .before .before .before .before .before .before .before .before .before .before .before .before .before .before .before .before .before .before .before .before .before .before .before .before .before .before .before .pre), whole.z-as-x _ _ _ _ _ _ _ _ _ (c .before .before .before .before .before .before .before .before .before .before .before .before .before .before .before .before .before .before .before .before .before .before .before .before .before .before .before .before .before .before .before .pre))
+    (simp length-take (omega arith), whole.y-as-x (c .before .before .before .before .before .before .before .before .before .before .before .before .before .before .before .before .before .before .before .before .before .before .before .before .before .before .before .before .before .before .before .pre), whole.z-as-x (c .before .before .before .before .before .before .before .before .before .before .before .before .before .before .before .before .before .before .before .before .before .before .before .before .before .before .before .before .before .before .before .pre))
 
 same-length : tie.Need-same-length
 same-length c = search needs
 
 returns : tie.Need-returns
 returns c =
-    whole.whole _ _ _ _ _ _ _ _ _ (c .before .before .before .before .before .before .before .before .before .before .before .before .before .before .before .before .before .before .before .before .before .before .before .before .before .before .before .before .before .before .before .before .before .before .pre) _ _ _ _ _ _ (c .before .before .before .before .before .before .before .before .before .before .before .before .before .before .before .before .before .before .before .before .before .before .before .before .put-head .ensures) (c .before .before .before .before .before .before .before .before .before .before .before .before .before .before .before .before .before .before .before .before .put-counts .ensures) (c .before .before .before .before .before .before .before .before .before .before .before .before .before .before .before .put-reals .ensures) (c .before .before .before .before .before .before .before .before .before .put-pairs .ensures) (c .before .before .put-triples .ensures)
+    whole.whole (c .before .before .before .before .before .before .before .before .before .before .before .before .before .before .before .before .before .before .before .before .before .before .before .before .before .before .before .before .before .before .before .before .before .before .pre) _ (c .before .before .before .before .before .before .before .before .before .before .before .before .before .before .before .before .before .before .before .before .before .before .before .before .put-head .ensures) (c .before .before .before .before .before .before .before .before .before .before .before .before .before .before .before .before .before .before .before .before .put-counts .ensures) (c .before .before .before .before .before .before .before .before .before .before .before .before .before .before .before .put-reals .ensures) (c .before .before .before .before .before .before .before .before .before .put-pairs .ensures) (c .before .before .put-triples .ensures)
 
 pub put-result-spec : {M : Type 1} → statement M
 put-result-spec =

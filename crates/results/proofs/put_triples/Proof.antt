@@ -13,7 +13,7 @@ abbrev μ-loop : tie.MeasureT-loop
 μ-loop out₀ at x y z i₀ out i = length x - i
 
 loop-holds : tie.Need-loop-holds Inv-loop μ-loop
-loop-holds c = (omega arith, rows.triples-start _ _ _ _ _)
+loop-holds c = (omega arith, rows.triples-start (c .before .before .before .before .pre .1) (c .before .before .before .before .pre .2))
 
 mul-put : tie.Need-mul-put Inv-loop μ-loop
 mul-put c = omega arith
@@ -85,16 +85,15 @@ loop-again : tie.Need-loop-again Inv-loop μ-loop
 loop-again c =
     let w = c .before .before .before .before .before .before .before .before .before .before .before .before .before .before .before .before .before .before in (
       omega arith,
-      rows.triples-turn _ _ _ _ _ _ _ (w .before .loop .inv .1) (c .before .before .before .before .before .before .before .before .before .before .before .before .before .before .before .before .before .before .before .before .before .before .before .before .pre .1) (c .before .before .before .before .before .before .before .before .before .before .before .before .before .before .before .before .before .before .before .before .before .before .before .before .pre .2) _ _ _ _ _ _ (w .loop-test .taken)
+      rows.triples-turn (w .before .loop .inv .1) (w .loop-test .taken)
           (c .before .before .before .before .before .before .before .before .before .before .before .before .before .before .before .to-bits .ensures) (c .before .before .before .before .before .before .before .before .before .before .before .before .before .before .put .ensures) (c .before .before .before .before .before .before .before .before .before .to-bits2 .ensures) (c .before .before .before .before .before .before .before .before .put2 .ensures) (c .before .before .before .to-bits3 .ensures) (c .before .before .put3 .ensures),
     )
 
 same-length : tie.Need-same-length Inv-loop μ-loop
-same-length c = c .before .loop .inv .1 .long
+same-length c = c .before .loop .inv .1 .storing .long
 
 returns : tie.Need-returns Inv-loop μ-loop
-returns c =
-    rows.triples-end _ _ _ _ _ _ _ (c .before .loop .inv .1) (c .before .before .before .before .before .before .pre .1) (c .before .before .before .before .before .before .pre .2) (c .loop-test .left)
+returns c = rows.triples-end (c .before .loop .inv .1) (c .loop-test .left)
 
 pub put-triples-spec : {M : Type 1} → statement M
 put-triples-spec =

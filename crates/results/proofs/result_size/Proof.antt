@@ -13,13 +13,13 @@ abbrev μ-loop : tie.MeasureT-loop
 μ-loop counts n holes corners₀ i₀ corners i = n - i
 
 returns : tie.Need-returns Inv-loop μ-loop
-returns c = sizes.none _ _ refl (c .if1 .taken)
+returns c = sizes.none _ refl (c .if1 .taken)
 
 returns-2 : tie.Need-returns-2 Inv-loop μ-loop
-returns-2 c = sizes.too-many _ _ refl (c .before .if1 .left) (c .if2 .taken)
+returns-2 c = sizes.too-many _ refl (c .before .if1 .left) (c .if2 .taken)
 
 loop-holds : tie.Need-loop-holds Inv-loop μ-loop
-loop-holds c = (sizes.sum-start _, (refl, omega arith))
+loop-holds c = (sizes.sum-start, (refl, omega arith))
 
 mul-count : tie.Need-mul-count Inv-loop μ-loop
 mul-count c = omega arith
@@ -29,7 +29,7 @@ shared-slice-read-count c = omega arith
 
 returns-3 : tie.Need-returns-3 Inv-loop μ-loop
 returns-3 c =
-    sizes.too-long _ _ _ (c .before .before .before .loop .inv .0) _ refl (c .before .before .before .before .before .if1 .left) (c .before .before .before .before .if2 .left) (c .before .before .loop-test .taken) (c .if3 .taken)
+    sizes.too-long _ (c .before .before .before .loop .inv .0) refl (c .before .before .before .before .before .if1 .left) (c .before .before .before .before .if2 .left) (c .before .before .loop-test .taken) (c .if3 .taken)
 
 add-corners : tie.Need-add-corners Inv-loop μ-loop
 add-corners c = omega arith
@@ -42,7 +42,7 @@ loop-less c = omega arith
 
 loop-again : tie.Need-loop-again Inv-loop μ-loop
 loop-again c =
-    (sizes.sum-turn _ _ _ (c .before .before .before .loop .inv .0) _ refl (c .before .before .before .before .before .if1 .left) (c .before .before .before .before .if2 .left) (c .before .before .loop-test .taken) (c .if3 .left), c .before .before .before .loop .inv .1)
+    (sizes.sum-turn _ (c .before .before .before .loop .inv .0) refl (c .before .before .before .before .before .if1 .left) (c .before .before .before .before .if2 .left) (c .before .before .loop-test .taken) (c .if3 .left), c .before .before .before .loop .inv .1)
 
 add-t12 : tie.Need-add-t12 Inv-loop μ-loop
 add-t12 c = omega arith
@@ -60,7 +60,7 @@ add-t16 : tie.Need-add-t16 Inv-loop μ-loop
 add-t16 c = omega arith
 
 returns-4 : tie.Need-returns-4 Inv-loop μ-loop
-returns-4 c = sizes.sized _ _ _ (c .before .loop .inv .0) _ refl (c .before .before .before .if1 .left) (c .before .before .if2 .left) (c .loop-test .left)
+returns-4 c = sizes.sized _ (c .before .loop .inv .0) refl (c .before .before .before .if1 .left) (c .before .before .if2 .left) (c .loop-test .left)
 
 pub result-size-spec : {M : Type 1} → statement M
 result-size-spec =

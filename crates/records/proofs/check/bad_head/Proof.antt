@@ -31,7 +31,7 @@ add-at : tie.Need-add-at Inv-loop μ-loop
 add-at c = omega arith
 
 loop-holds : tie.Need-loop-holds Inv-loop μ-loop
-loop-holds c = reals.scan-start _ _ _ _ _ (c .before .wide .ensures .0) (omega arith)
+loop-holds c = reals.scan-start (c .before .wide .ensures .0) (omega arith)
 
 mul-real-at : tie.Need-mul-real-at Inv-loop μ-loop
 mul-real-at c = let z = c .before .loop .inv .seeking .far in omega arith
@@ -47,7 +47,7 @@ head-holds-requires c κs = search needs
 
 returns : tie.Need-returns Inv-loop μ-loop
 returns c =
-    let w = c .before .before .before .before .loop .inv in reals.scan-found _ _ _ _ _ _ w _ _ _ (c .before .before .before .loop-test .taken) (c .before .before .real-at .ensures) (c .before .head-holds .ensures) (reals.head-range _ _ _ _ _ _ w (omega arith)) (not-true _ (c .if1 .taken))
+    let w = c .before .before .before .before .loop .inv in reals.scan-found w (c .before .before .before .loop-test .taken) (c .before .before .real-at .ensures) (c .before .head-holds .ensures) (reals.head-range w (omega arith)) (not-true _ (c .if1 .taken))
 
 add-i : tie.Need-add-i Inv-loop μ-loop
 add-i c = omega arith
@@ -57,10 +57,10 @@ loop-less c = omega arith
 
 loop-again : tie.Need-loop-again Inv-loop μ-loop
 loop-again c =
-    let w = c .before .before .before .before .loop .inv in reals.scan-turn _ _ _ _ _ _ w _ _ _ (c .before .before .before .loop-test .taken) (c .before .before .real-at .ensures) (c .before .head-holds .ensures) (reals.head-range _ _ _ _ _ _ w (omega arith)) (not-false _ (c .if1 .left))
+    let w = c .before .before .before .before .loop .inv in reals.scan-turn w (c .before .before .before .loop-test .taken) (c .before .before .real-at .ensures) (c .before .head-holds .ensures) (reals.head-range w (omega arith)) (not-false _ (c .if1 .left))
 
 returns-2 : tie.Need-returns-2 Inv-loop μ-loop
-returns-2 c = reals.scan-end _ _ _ _ _ _ (c .before .loop .inv) (c .loop-test .left)
+returns-2 c = reals.scan-end (c .before .loop .inv) (c .loop-test .left)
 
 pub bad-head-spec : {M : Type 1} → statement M
 bad-head-spec =

@@ -37,7 +37,7 @@ add-at-3 : tie.Need-add-at-3 Inv-loop μ-loop
 add-at-3 c = omega arith
 
 loop-holds : tie.Need-loop-holds Inv-loop μ-loop
-loop-holds c = reals.scan-start _ _ _ _ _ refl (omega arith)
+loop-holds c = reals.scan-start refl (omega arith)
 
 mul-loop : tie.Need-mul-loop Inv-loop μ-loop
 mul-loop c = omega arith
@@ -56,7 +56,7 @@ xyz-holds-requires c κs = search needs
 
 returns : tie.Need-returns Inv-loop μ-loop
 returns c =
-    let w = c .before .before .before .before .loop .inv in reals.scan-found _ _ _ _ _ _ w _ _ _ (c .before .before .before .loop-test .taken) (c .before .before .real-at .ensures) (c .before .xyz-holds .ensures) (reals.xyz-range _ _ _ (c .before .before .before .before .before .before .before .pre .1)) (not-true _ (c .if1 .taken))
+    let w = c .before .before .before .before .loop .inv in reals.scan-found w (c .before .before .before .loop-test .taken) (c .before .before .real-at .ensures) (c .before .xyz-holds .ensures) (reals.xyz-range _ _ _ (c .before .before .before .before .before .before .before .pre .1)) (not-true _ (c .if1 .taken))
 
 add-j : tie.Need-add-j Inv-loop μ-loop
 add-j c = omega arith
@@ -66,10 +66,10 @@ loop-less c = omega arith
 
 loop-again : tie.Need-loop-again Inv-loop μ-loop
 loop-again c =
-    let w = c .before .before .before .before .loop .inv in reals.scan-turn _ _ _ _ _ _ w _ _ _ (c .before .before .before .loop-test .taken) (c .before .before .real-at .ensures) (c .before .xyz-holds .ensures) (reals.xyz-range _ _ _ (c .before .before .before .before .before .before .before .pre .1)) (not-false _ (c .if1 .left))
+    let w = c .before .before .before .before .loop .inv in reals.scan-turn w (c .before .before .before .loop-test .taken) (c .before .before .real-at .ensures) (c .before .xyz-holds .ensures) (reals.xyz-range _ _ _ (c .before .before .before .before .before .before .before .pre .1)) (not-false _ (c .if1 .left))
 
 returns-2 : tie.Need-returns-2 Inv-loop μ-loop
-returns-2 c = reals.scan-end _ _ _ _ _ _ (c .before .loop .inv) (c .loop-test .left)
+returns-2 c = reals.scan-end (c .before .loop .inv) (c .loop-test .left)
 
 pub bad-position-spec : {M : Type 1} → statement M
 bad-position-spec =

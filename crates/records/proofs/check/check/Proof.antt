@@ -33,25 +33,25 @@ face-7 c = face-6 (c .before .before .before)
 
 -- what did not hold there
 past-1 : (c : tie.After-enum-told) → wrongHeader (face-1 c) ≡ nowhere
-past-1 c = not-found _ _ (c .before .before .wrong-header .ensures) (c .enum-told .given .1)
+past-1 c = not-found (c .before .before .wrong-header .ensures) (c .enum-told .given .1)
 
 past-2 : (c : tie.After-enum-told2) → tooManyLoops (face-2 c) ≡ nowhere
-past-2 c = not-found _ _ (c .before .before .too-many-loops .ensures) (c .enum-told2 .given .1)
+past-2 c = not-found (c .before .before .too-many-loops .ensures) (c .enum-told2 .given .1)
 
 past-3 : (c : tie.After-enum-told3) → endsInCounts (face-3 c) ≡ nowhere
-past-3 c = not-found _ _ (c .before .before .ends-in-counts .ensures) (c .enum-told3 .given .1)
+past-3 c = not-found (c .before .before .ends-in-counts .ensures) (c .enum-told3 .given .1)
 
 past-4 : (c : tie.After-enum-told4) → tooFewPoints (face-4 c) ≡ nowhere
-past-4 c = not-found _ _ (c .before .before .too-few-points .ensures) (c .enum-told4 .given .1)
+past-4 c = not-found (c .before .before .too-few-points .ensures) (c .enum-told4 .given .1)
 
 past-5 : (c : tie.After-enum-told5) → tooManyPoints (face-5 c) ≡ nowhere
-past-5 c = not-found _ _ (c .before .before .too-many-points .ensures) (c .enum-told5 .given .1)
+past-5 c = not-found (c .before .before .too-many-points .ensures) (c .enum-told5 .given .1)
 
 past-6 : (c : tie.After-enum-told6) → wrongLength (face-6 c) ≡ nowhere
-past-6 c = not-found _ _ (c .before .before .wrong-length .ensures) (c .enum-told6 .given .1)
+past-6 c = not-found (c .before .before .wrong-length .ensures) (c .enum-told6 .given .1)
 
 past-7 : (c : tie.After-enum-told7) → firstBadReal (face-7 c) ≡ nowhere
-past-7 c = not-found _ _ (c .before .before .first-bad-real .ensures) (c .enum-told7 .given .1)
+past-7 c = not-found (c .before .before .first-bad-real .ensures) (c .enum-told7 .given .1)
 
 wrong-header-requires : tie.Need-wrong-header-requires
 wrong-header-requires c κs = search needs
@@ -61,7 +61,7 @@ enum-known-p c = search needs
 
 returns : tie.Need-returns
 unfolding verdict
-returns c = rw (found _ _ _ (c .before .before .before .wrong-header .ensures) (c .before .p .given .1))
+returns c = rw (found (c .before .before .before .wrong-header .ensures) (c .before .p .given .1))
 
 enum-told : tie.Need-enum-told
 enum-told c = search needs
@@ -74,7 +74,7 @@ enum-known-l c = search needs
 
 returns-2 : tie.Need-returns-2
 unfolding verdict
-returns-2 c = rw (past-1 (c .before .before .before .before), found _ _ _ (c .before .before .before .too-many-loops .ensures) (c .before .l .given .1))
+returns-2 c = rw (past-1 (c .before .before .before .before), found (c .before .before .before .too-many-loops .ensures) (c .before .l .given .1))
 
 enum-told-2 : tie.Need-enum-told-2
 enum-told-2 c = search needs
@@ -88,7 +88,7 @@ enum-known-n c = search needs
 returns-3 : tie.Need-returns-3
 unfolding verdict
 returns-3 c =
-    rw (past-1 (c .before .before .before .before .before .before .before), past-2 (c .before .before .before .before), found _ _ _ (c .before .before .before .ends-in-counts .ensures) (c .before .n .given .1))
+    rw (past-1 (c .before .before .before .before .before .before .before), past-2 (c .before .before .before .before), found (c .before .before .before .ends-in-counts .ensures) (c .before .n .given .1))
 
 enum-told-3 : tie.Need-enum-told-3
 enum-told-3 c = search needs
@@ -102,7 +102,7 @@ enum-known-k c = search needs
 returns-4 : tie.Need-returns-4
 unfolding verdict
 returns-4 c =
-    rw (past-1 (c .before .before .before .before .before .before .before .before .before .before), past-2 (c .before .before .before .before .before .before .before), past-3 (c .before .before .before .before), found _ _ _ (c .before .before .before .too-few-points .ensures) (c .before .k .given .1))
+    rw (past-1 (c .before .before .before .before .before .before .before .before .before .before), past-2 (c .before .before .before .before .before .before .before), past-3 (c .before .before .before .before), found (c .before .before .before .too-few-points .ensures) (c .before .k .given .1))
 
 enum-told-4 : tie.Need-enum-told-4
 enum-told-4 c = search needs
@@ -116,7 +116,7 @@ enum-known-k-2 c = search needs
 returns-5 : tie.Need-returns-5
 unfolding verdict
 returns-5 c =
-    rw (past-1 (c .before .before .before .before .before .before .before .before .before .before .before .before .before), past-2 (c .before .before .before .before .before .before .before .before .before .before), past-3 (c .before .before .before .before .before .before .before), past-4 (c .before .before .before .before), found _ _ _ (c .before .before .before .too-many-points .ensures) (c .before .k2 .given .1))
+    rw (past-1 (c .before .before .before .before .before .before .before .before .before .before .before .before .before), past-2 (c .before .before .before .before .before .before .before .before .before .before), past-3 (c .before .before .before .before .before .before .before), past-4 (c .before .before .before .before), found (c .before .before .before .too-many-points .ensures) (c .before .k2 .given .1))
 
 enum-told-5 : tie.Need-enum-told-5
 enum-told-5 c = search needs
@@ -130,7 +130,7 @@ enum-known-n-2 c = search needs
 returns-6 : tie.Need-returns-6
 unfolding verdict
 returns-6 c =
-    rw (past-1 (c .before .before .before .before .before .before .before .before .before .before .before .before .before .before .before .before), past-2 (c .before .before .before .before .before .before .before .before .before .before .before .before .before), past-3 (c .before .before .before .before .before .before .before .before .before .before), past-4 (c .before .before .before .before .before .before .before), past-5 (c .before .before .before .before), found _ _ _ (c .before .before .before .wrong-length .ensures) (c .before .n2 .given .1))
+    rw (past-1 (c .before .before .before .before .before .before .before .before .before .before .before .before .before .before .before .before), past-2 (c .before .before .before .before .before .before .before .before .before .before .before .before .before), past-3 (c .before .before .before .before .before .before .before .before .before .before), past-4 (c .before .before .before .before .before .before .before), past-5 (c .before .before .before .before), found (c .before .before .before .wrong-length .ensures) (c .before .n2 .given .1))
 
 enum-told-6 : tie.Need-enum-told-6
 enum-told-6 c = search needs
@@ -144,7 +144,7 @@ enum-known-i c = search needs
 returns-7 : tie.Need-returns-7
 unfolding verdict
 returns-7 c =
-    rw (past-1 (c .before .before .before .before .before .before .before .before .before .before .before .before .before .before .before .before .before .before .before), past-2 (c .before .before .before .before .before .before .before .before .before .before .before .before .before .before .before .before), past-3 (c .before .before .before .before .before .before .before .before .before .before .before .before .before), past-4 (c .before .before .before .before .before .before .before .before .before .before), past-5 (c .before .before .before .before .before .before .before), past-6 (c .before .before .before .before), found _ _ _ (c .before .before .before .first-bad-real .ensures) (c .before .i .given .1))
+    rw (past-1 (c .before .before .before .before .before .before .before .before .before .before .before .before .before .before .before .before .before .before .before), past-2 (c .before .before .before .before .before .before .before .before .before .before .before .before .before .before .before .before), past-3 (c .before .before .before .before .before .before .before .before .before .before .before .before .before), past-4 (c .before .before .before .before .before .before .before .before .before .before), past-5 (c .before .before .before .before .before .before .before), past-6 (c .before .before .before .before), found (c .before .before .before .first-bad-real .ensures) (c .before .i .given .1))
 
 enum-told-7 : tie.Need-enum-told-7
 enum-told-7 c = search needs

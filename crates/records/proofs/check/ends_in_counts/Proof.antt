@@ -14,10 +14,10 @@ add-end : tie.Need-add-end
 add-end c = search needs
 
 returns : tie.Need-returns
-returns c = counting.in-counts _ _ (omega arith) (c .if1 .taken)
+returns c = counting.in-counts _ (omega arith) (c .if1 .taken)
 
 returns-2 : tie.Need-returns-2
-returns-2 c = counting.past-counts _ _ (omega arith) (c .if1 .left)
+returns-2 c = counting.past-counts _ (omega arith) (c .if1 .left)
 
 pub ends-in-counts-spec : {M : Type 1} → statement M
 ends-in-counts-spec = tie.close (tie.spec loops-requires mul-end add-end returns returns-2)

@@ -18,13 +18,13 @@ loops-requires : tie.Need-loops-requires Inv-loop μ-loop
 loops-requires c κs = search needs
 
 loop-holds : tie.Need-loop-holds Inv-loop μ-loop
-loop-holds c = (seek-start _ _, c .loops .ensures)
+loop-holds c = (seek-start, c .loops .ensures)
 
 count-at-requires : tie.Need-count-at-requires Inv-loop μ-loop
 count-at-requires c κs = search needs
 
 returns : tie.Need-returns Inv-loop μ-loop
-returns c = counting.few-found _ _ (c .before .before .before .loop .inv .0) _ (omega arith) (c .before .count-at .ensures .0) (c .if1 .taken)
+returns c = counting.few-found _ (c .before .before .before .loop .inv .0) (omega arith) (c .before .count-at .ensures .0) (c .if1 .taken)
 
 add-k : tie.Need-add-k Inv-loop μ-loop
 add-k c = omega arith
@@ -34,10 +34,10 @@ loop-less c = omega arith
 
 loop-again : tie.Need-loop-again Inv-loop μ-loop
 loop-again c =
-    (counting.few-turn _ _ (c .before .before .before .loop .inv .0) _ (omega arith) (c .before .count-at .ensures .0) (c .if1 .left), c .before .before .before .loop .inv .1)
+    (counting.few-turn _ (c .before .before .before .loop .inv .0) (omega arith) (c .before .count-at .ensures .0) (c .if1 .left), c .before .before .before .loop .inv .1)
 
 returns-2 : tie.Need-returns-2 Inv-loop μ-loop
-returns-2 c = counting.few-end _ _ (c .before .loop .inv .0) (omega arith)
+returns-2 c = counting.few-end _ (c .before .loop .inv .0) (omega arith)
 
 pub too-few-points-spec : {M : Type 1} → statement M
 too-few-points-spec =

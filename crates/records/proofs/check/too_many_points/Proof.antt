@@ -17,7 +17,7 @@ loops-requires : tie.Need-loops-requires Inv-loop μ-loop
 loops-requires c κs = search needs
 
 loop-holds : tie.Need-loop-holds Inv-loop μ-loop
-loop-holds c = (counting.total-start _, c .loops .ensures)
+loop-holds c = (counting.total-start, c .loops .ensures)
 
 count-at-requires : tie.Need-count-at-requires Inv-loop μ-loop
 count-at-requires c κs = search needs
@@ -26,7 +26,7 @@ add-total : tie.Need-add-total Inv-loop μ-loop
 add-total c = omega arith
 
 returns : tie.Need-returns Inv-loop μ-loop
-returns c = counting.total-found _ _ _ (c .before .before .before .loop .inv .0) _ (omega arith) (c .before .count-at .ensures .0) (c .if1 .taken)
+returns c = counting.total-found (c .before .before .before .loop .inv .0) (omega arith) (c .before .count-at .ensures .0) (c .if1 .taken)
 
 add-k : tie.Need-add-k Inv-loop μ-loop
 add-k c = omega arith
@@ -36,10 +36,10 @@ loop-less c = omega arith
 
 loop-again : tie.Need-loop-again Inv-loop μ-loop
 loop-again c =
-    (counting.total-turn _ _ _ (c .before .before .before .loop .inv .0) _ (omega arith) (c .before .count-at .ensures .0) (c .if1 .left), c .before .before .before .loop .inv .1)
+    (counting.total-turn (c .before .before .before .loop .inv .0) (omega arith) (c .before .count-at .ensures .0) (c .if1 .left), c .before .before .before .loop .inv .1)
 
 returns-2 : tie.Need-returns-2 Inv-loop μ-loop
-returns-2 c = counting.total-end _ _ _ (c .before .loop .inv .0) (omega arith)
+returns-2 c = counting.total-end (c .before .loop .inv .0) (omega arith)
 
 pub too-many-points-spec : {M : Type 1} → statement M
 too-many-points-spec =

@@ -29,10 +29,10 @@ add-needed-3 : tie.Need-add-needed-3
 add-needed-3 c = search needs
 
 returns : tie.Need-returns
-returns c = counting.bad-length _ _ (omega arith) (c .if1 .taken)
+returns c = counting.bad-length _ (omega arith) (c .if1 .taken)
 
 returns-2 : tie.Need-returns-2
-returns-2 c = counting.good-length _ _ (omega arith) (c .if1 .left)
+returns-2 c = counting.good-length _ (omega arith) (c .if1 .left)
 
 pub wrong-length-spec : {M : Type 1} → statement M
 wrong-length-spec =

@@ -58,7 +58,7 @@ same-length-5 c = search needs
 
 returns : tie.Need-returns
 returns c =
-    reading.points-filled _ _ _ _ (c .before .before .before .before .before .before .before .before .before .before .before .before .before .before .before .before .before .before .before .before .before .before .before .before .before .before .before .pre .many) (omega (arith, c .before .before .before .before .before .before .before .before .before .before .before .before .before .before .before .before .before .before .before .before .loops .ensures)) refl _ _ _ _ _ _ _ _ _ _ (c .before .before .before .before .before .before .before .before .before .before .before .before .before .before .before .before .before .before .read-column .ensures) (c .before .before .before .before .before .before .before .before .before .before .before .before .before .before .read-column2 .ensures) (c .before .before .before .before .before .before .before .before .before .before .read-column3 .ensures) (c .before .before .before .before .before .before .read-column4 .ensures) (c .before .before .read-column5 .ensures)
+    reading.points-filled (c .before .before .before .before .before .before .before .before .before .before .before .before .before .before .before .before .before .before .before .before .before .before .before .before .before .before .before .pre .many) (omega (arith, c .before .before .before .before .before .before .before .before .before .before .before .before .before .before .before .before .before .before .before .before .loops .ensures)) refl (c .before .before .before .before .before .before .before .before .before .before .before .before .before .before .before .before .before .before .read-column .ensures) (c .before .before .before .before .before .before .before .before .before .before .before .before .before .before .read-column2 .ensures) (c .before .before .before .before .before .before .before .before .before .before .read-column3 .ensures) (c .before .before .before .before .before .before .read-column4 .ensures) (c .before .before .read-column5 .ensures)
 
 pub fill-points-spec : {M : Type 1} → statement M
 fill-points-spec =

@@ -14,19 +14,19 @@ add-p : tie.Need-add-p Inv-loop μ-loop
 add-p c = omega arith
 
 loop-holds : tie.Need-loop-holds Inv-loop μ-loop
-loop-holds c = columns.column-start _ _ _ _ _ _ (c .before .before .pre .0) (c .before .before .pre .2) (c .before .before .pre .3)
+loop-holds c = columns.column-start (c .before .before .pre .0) (c .before .before .pre .2) (c .before .before .pre .3)
 
 real-at-requires : tie.Need-real-at-requires Inv-loop μ-loop
-real-at-requires c κs = columns.column-inside _ _ _ _ _ _ _ _ _ (c .before .loop .inv) (c .loop-test .taken)
+real-at-requires c κs = columns.column-inside (c .before .loop .inv) (c .loop-test .taken)
 
 mul-dst : tie.Need-mul-dst Inv-loop μ-loop
-mul-dst c = let l = columns.column-long _ _ _ _ _ _ _ _ _ (c .before .before .loop .inv) in omega arith
+mul-dst c = let l = columns.column-long (c .before .before .loop .inv) in omega arith
 
 slice-write-dst : tie.Need-slice-write-dst Inv-loop μ-loop
-slice-write-dst c = let l = columns.column-long _ _ _ _ _ _ _ _ _ (c .before .before .loop .inv) in omega arith
+slice-write-dst c = let l = columns.column-long (c .before .before .loop .inv) in omega arith
 
 add-p-2 : tie.Need-add-p-2 Inv-loop μ-loop
-add-p-2 c = let h = columns.column-inside _ _ _ _ _ _ _ _ _ (c .before .before .loop .inv) (c .before .loop-test .taken) in omega arith
+add-p-2 c = let h = columns.column-inside (c .before .before .loop .inv) (c .before .loop-test .taken) in omega arith
 
 add-i : tie.Need-add-i Inv-loop μ-loop
 add-i c = omega arith
@@ -35,13 +35,13 @@ loop-less : tie.Need-loop-less Inv-loop μ-loop
 loop-less c = omega arith
 
 loop-again : tie.Need-loop-again Inv-loop μ-loop
-loop-again c = columns.column-turn _ _ _ _ _ _ _ _ _ (c .before .before .loop .inv) _ (c .before .loop-test .taken) (c .real-at .ensures)
+loop-again c = columns.column-turn (c .before .before .loop .inv) (c .before .loop-test .taken) (c .real-at .ensures)
 
 same-length : tie.Need-same-length Inv-loop μ-loop
 same-length c = c .before .loop .inv .filling .long
 
 returns : tie.Need-returns Inv-loop μ-loop
-returns c = columns.column-end _ _ _ _ _ _ _ _ _ (c .before .loop .inv) (c .loop-test .left)
+returns c = columns.column-end (c .before .loop .inv) (c .loop-test .left)
 
 pub read-column-spec : {M : Type 1} → statement M
 read-column-spec =

@@ -18,17 +18,17 @@ counts-there-requires : tie.Need-counts-there-requires Inv-loop μ-loop
 counts-there-requires c κs = search needs
 
 returns : tie.Need-returns Inv-loop μ-loop
-returns c = reading.counts-gone _ _ (reading.gone _ _ (c .before .counts-there .ensures) (c .if1 .taken))
+returns c = reading.counts-gone _ _ (reading.gone _ (c .before .counts-there .ensures) (c .if1 .taken))
 
 loops-requires : tie.Need-loops-requires Inv-loop μ-loop
-loops-requires c κs = reading.there-header _ (reading.there _ _ (c .before .counts-there .ensures) (c .if1 .left))
+loops-requires c κs = reading.there-header _ (reading.there _ (c .before .counts-there .ensures) (c .if1 .left))
 
 returns-2 : tie.Need-returns-2 Inv-loop μ-loop
-returns-2 c = reading.no-counts-room _ _ _ (c .before .loops .ensures .0) (c .if2 .taken)
+returns-2 c = reading.no-counts-room _ _ (c .before .loops .ensures .0) (c .if2 .taken)
 
 loop-holds : tie.Need-loop-holds Inv-loop μ-loop
 loop-holds c =
-    (columns.counts-start _ _ (c .before .loops .ensures .0) _ (c .if2 .left), reading.there-long _ (reading.there _ _ (c .before .before .before .counts-there .ensures) (c .before .before .if1 .left)))
+    (columns.counts-start _ (c .before .loops .ensures .0) (c .if2 .left), reading.there-long _ (reading.there _ (c .before .before .before .counts-there .ensures) (c .before .before .if1 .left)))
 
 count-at-requires : tie.Need-count-at-requires Inv-loop μ-loop
 count-at-requires c κs = search needs
@@ -47,14 +47,14 @@ loop-less c = omega arith
 
 loop-again : tie.Need-loop-again Inv-loop μ-loop
 loop-again c =
-    (columns.counts-turn _ _ (c .before .before .before .before .loops .ensures .0) _ _ _ (c .before .before .loop .inv .0) _ (c .before .loop-test .taken) (c .count-at .ensures .0), c .before .before .loop .inv .1)
+    (columns.counts-turn _ (c .before .before .before .before .loops .ensures .0) (c .before .before .loop .inv .0) (c .before .loop-test .taken) (c .count-at .ensures .0), c .before .before .loop .inv .1)
 
 same-length : tie.Need-same-length Inv-loop μ-loop
 same-length c = c .before .loop .inv .0 .long
 
 returns-3 : tie.Need-returns-3 Inv-loop μ-loop
 returns-3 c =
-    reading.counts-read _ _ (reading.there _ _ (c .before .before .before .before .before .counts-there .ensures) (c .before .before .before .before .if1 .left)) _ (c .before .before .before .loops .ensures .0) (c .before .before .if2 .left) _ (columns.counts-end _ _ (c .before .before .before .loops .ensures .0) _ _ _ (c .before .loop .inv .0) (c .loop-test .left))
+    reading.counts-read _ _ (reading.there _ (c .before .before .before .before .before .counts-there .ensures) (c .before .before .before .before .if1 .left)) (c .before .before .before .loops .ensures .0) (c .before .before .if2 .left) (columns.counts-end _ (c .before .before .before .loops .ensures .0) (c .before .loop .inv .0) (c .loop-test .left))
 
 pub read-counts-spec : {M : Type 1} → statement M
 read-counts-spec =

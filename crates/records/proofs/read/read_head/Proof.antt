@@ -8,10 +8,10 @@ counts-there-requires : tie.Need-counts-there-requires
 counts-there-requires c κs = search needs
 
 returns : tie.Need-returns
-returns c = reading.head-gone _ _ (reading.gone _ _ (c .before .counts-there .ensures) (c .if1 .taken))
+returns c = reading.head-gone _ _ (reading.gone _ (c .before .counts-there .ensures) (c .if1 .taken))
 
 loops-requires : tie.Need-loops-requires
-loops-requires c κs = reading.there-header _ (reading.there _ _ (c .before .counts-there .ensures) (c .if1 .left))
+loops-requires c κs = reading.there-header _ (reading.there _ (c .before .counts-there .ensures) (c .if1 .left))
 
 mul-at : tie.Need-mul-at
 mul-at c = search needs
@@ -26,7 +26,7 @@ add-if2 : tie.Need-add-if2
 add-if2 c = search needs
 
 returns-2 : tie.Need-returns-2
-returns-2 c = reading.no-head _ _ _ (omega arith) (c .if2 .taken)
+returns-2 c = reading.no-head _ _ (omega arith) (c .if2 .taken)
 
 returns-3 : tie.Need-returns-3
 returns-3 c = reading.no-head-room _ _ (c .if3 .taken)
@@ -39,7 +39,7 @@ same-length c = search needs
 
 returns-4 : tie.Need-returns-4
 returns-4 c =
-    reading.head-read _ _ _ (omega arith) (c .before .before .before .before .before .if2 .left) (c .before .before .before .before .if3 .left) _ (reading.head-filled _ _ (omega arith) _ _ (c .before .before .read-column .ensures))
+    reading.head-read _ _ (omega arith) (c .before .before .before .before .before .if2 .left) (c .before .before .before .before .if3 .left) (reading.head-filled _ (omega arith) _ (c .before .before .read-column .ensures))
 
 pub read-head-spec : {M : Type 1} → statement M
 read-head-spec =

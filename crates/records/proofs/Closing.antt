@@ -1,0 +1,58 @@
+-- What holds of every face that the call closes, whatever the conditions after 7 and the face that it makes: the record is as described, enough bytes were
+-- lent, the bytes are read as that face, their length, and that the lent bytes keep their number.
+use mathlib.Core.Path.{_≡_, refl, sym, ap, _∙_}
+use mathlib.Core.List.{List, [], _∷_, _++_, append-nil}
+use Prim.Native.Nat.{ℕ, zero, suc, _+_, _*_, _≤_, _<_}
+use native.Mathlib.Omega.{arith}
+use lib.ListN.{length, drop, length-append, length-drop}
+use borrow.Author.Tests.{ltb-false}
+use Rattle.records.specs.Bytes.{sum}
+use Rattle.records.specs.Limits.{maxLoops, maxPoints, maxStrip, resultBytes}
+use Rattle.records.specs.Refusals.{nowhere, Condition, conditions, recordConditions, tooFewLent, NoneHolds}
+use Rattle.records.specs.Accepted.{Accepted}
+use Rattle.records.specs.Result.{Result, encode, decode, resultLength, holesIn, cornersIn, Writable}
+use Rattle.records.specs.Call.{closed, judge, lentAfter}
+use Rattle.records.proofs.Search.{nowhere≢at, when-fails}
+use Rattle.records.proofs.Refused.{verdict-passes, closed-exactly}
+use Rattle.records.proofs.Accepted.{accepted-exactly}
+use Rattle.records.proofs.RoundTrip.{decode-encode, length-read, encode-fits}
+
+front-none : (cs ds : List Condition) (s : List ℕ) → NoneHolds (cs ++ ds) s → NoneHolds cs s
+front-none [] ds s h j = refl
+front-none (c ∷ cs) ds s h zero = h 0
+front-none (c ∷ cs) ds s h (suc j) = front-none cs ds s (λ i. h (suc i)) j
+
+enough : (lent : ℕ) (s : List ℕ) → tooFewLent lent s ≡ nowhere → resultBytes ≤ lent
+unfolding tooFewLent
+enough lent s e = ltb-false lent resultBytes (when-fails _ resultBytes .0 e)
+
+module _ (more : List Condition) (face : List ℕ → Result) (lent : ℕ) (s b : List ℕ) (h : judge more (λ r. encode (face r)) lent s ≡ closed b) where
+  none : NoneHolds (conditions lent ++ more) s
+  none = closed-exactly more (λ r. encode (face r)) lent s b .0 h .0
+
+  pub closed-is : b ≡ encode (face s)
+  closed-is = closed-exactly more (λ r. encode (face r)) lent s b .0 h .1
+
+  pub closed-lent : resultBytes ≤ lent
+  closed-lent = enough lent s (none 0)
+
+  pub closed-accepted : Accepted s
+  closed-accepted = accepted-exactly s .0 (verdict-passes s recordConditions .1 (front-none recordConditions more s (λ j. none (suc j))))
+
+  module _ (w : Writable (face s)) where
+    pub closed-read : decode b ≡ face s
+    closed-read = rw (closed-is, ← append-nil (encode (face s))) (decode-encode (face s) w [])
+
+    -- the length, with the holes and the counts read from the bytes
+    pub closed-length : length b ≡ resultLength (holesIn b) (cornersIn b)
+    closed-length = rw closed-is (rw append-nil at (length-read (face s) w []))
+
+    module _ (few : length (face s .counts) ≤ maxLoops + 1) (corners : sum (face s .counts) ≤ maxStrip + maxPoints) where
+      pub closed-fits : length b ≤ resultBytes
+      closed-fits = rw closed-is (encode-fits (face s) w few corners)
+
+      pub lent-stays : (old : List ℕ) → length old ≡ lent → length (lentAfter (closed b) old) ≡ lent
+      lent-stays old e =
+          let f = closed-fits in
+          let l = closed-lent in
+          length-append b (drop (length b) old) ∙ ap (λ (n : ℕ). length b + n) (length-drop (length b) old) ∙ (omega arith)

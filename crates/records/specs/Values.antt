@@ -1,0 +1,137 @@
+-- 01, "Values to hold": the triangle on a plane, its result, and refusals of records that are like it. The prover computes each of them.
+use mathlib.Core.Path.{_≡_, refl}
+use mathlib.Core.List.{List, [], _∷_, _++_}
+use Prim.Native.Nat.{ℕ}
+use lib.ListN.{length, set, take}
+use lib.Ieee.{Float, binary64, ofBits, toBits, odd, ofFields, le, lt, eq, neg}
+use Rattle.records.specs.Bytes.{number, numberAt, realAt, uvAt, xyzAt, rowAt, bytes, real, uv, xyz, row, sum}
+use Rattle.records.specs.Face.{start}
+use Rattle.records.specs.Limits.{0·0, holds, headRange, radius, second, uvRange, uRange, vRange, range}
+use Rattle.records.specs.Refusals.{Verdict, passes, refuses, conditions, verdict, firstFrom, tooFewLent, wrongByte, wrongHeader, tooManyLoops, endsInCounts, tooFewPoints, tooManyPoints, wrongLength, badReal, firstBadReal}
+use Rattle.records.specs.Result.{Result, encode, decode, countsIn, cornersIn}
+use Rattle.records.specs.Call.{refused, output}
+
+abbrev 0·01 : Float
+0·01 = ofBits binary64 0x3f84_7ae1_47ae_147b
+
+abbrev 0·1 : Float
+0·1 = ofBits binary64 0x3fb9_9999_9999_999a
+
+abbrev 1·0 : Float
+1·0 = ofBits binary64 0x3ff0_0000_0000_0000
+
+abbrev 3·0 : Float
+3·0 = ofBits binary64 0x4008_0000_0000_0000
+
+abbrev 4·0 : Float
+4·0 = ofBits binary64 0x4010_0000_0000_0000
+
+abbrev 6·0 : Float
+6·0 = ofBits binary64 0x4018_0000_0000_0000
+
+-- "Corners (0,0), (4,0), (0,3)", "that triangle on a plane, positions (0,0,0), (4,0,0), (0,3,0)": version 1, plane, one loop, same sense, one segment
+abbrev pub triangle : List ℕ
+triangle =
+    (1 ∷ 0 ∷ 1 ∷ 1 ∷ 1 ∷ 3 ∷ 0 ∷ [])
+    ++ row real (
+    0·0 ∷ 0·0 ∷ 0·0 ∷ 0·0 ∷ 0·0 ∷ 1·0 ∷ 1·0 ∷ 0·0 ∷ 0·0 ∷  -- origin, axis, reference direction
+    0·0 ∷ 0·0 ∷ 0·01 ∷ 0·1 ∷  -- radius, second size, sag, angle
+    0·0 ∷ 0·0 ∷ 4·0 ∷ 0·0 ∷ 0·0 ∷ 3·0 ∷  -- (u, v)
+    0·0 ∷ 0·0 ∷ 0·0 ∷ 4·0 ∷ 0·0 ∷ 0·0 ∷ 0·0 ∷ 3·0 ∷ 0·0 ∷ [])  -- (x, y, z)
+
+abbrev says : ℕ → List ℕ → Verdict
+says lent s = verdict (conditions lent) s
+
+pub record Refused : Type 0 where
+  pub triangle-long : length triangle ≡ 231
+  pub triangle-passes : says 61614 triangle ≡ passes
+  pub fewer-lent : says 61613 triangle ≡ refuses 1 61614
+  pub empty : says 61614 [] ≡ refuses 2 0
+  pub four-bytes : says 61614 (take 4 triangle) ≡ refuses 2 4
+  pub version-2 : says 61614 (set triangle 0 2) ≡ refuses 2 0
+  pub kind-5 : says 61614 (set triangle 1 5) ≡ refuses 2 1
+  pub sense-2 : says 61614 (set triangle 3 2) ≡ refuses 2 3
+  pub segments-0 : says 61614 (set triangle 4 0) ≡ refuses 2 4
+  pub segments-65 : says 61614 (set triangle 4 65) ≡ refuses 2 4
+  pub loops-17 : says 61614 (set triangle 2 17) ≡ refuses 3 17
+  pub in-counts : says 61614 (take 6 triangle) ≡ refuses 6 7
+  pub two-points : says 61614 (set triangle 5 2) ≡ refuses 4 0
+  -- "512 points pass, 513 refuse": with 512 the record is too short, 5 + 2 + 8 (13 + 5 * 512) bytes being needed
+  pub points-512 : says 61614 (set (set triangle 5 0) 6 2) ≡ refuses 6 20591
+  pub points-513 : says 61614 (set (set triangle 5 1) 6 2) ≡ refuses 5 0
+  pub one-short : says 61614 (take 230 triangle) ≡ refuses 6 231
+  pub one-long : says 61614 (triangle ++ (0 ∷ [])) ≡ refuses 6 231
+  -- real 3 a NaN, and minus infinity; a plane of radius 2; the last coordinate over 10^9
+  pub no-number : says 61614 (set (set triangle 38 127) 37 248) ≡ refuses 7 3
+  pub infinite : says 61614 (set (set triangle 38 255) 37 240) ≡ refuses 7 3
+  pub plane-radius : says 61614 (set triangle 86 64) ≡ refuses 7 9
+  pub far-out : says 61614 (set triangle 230 66) ≡ refuses 7 27
+
+pub refused-values : Refused
+unfolding verdict tooFewLent wrongByte wrongHeader tooManyLoops endsInCounts tooFewPoints tooManyPoints wrongLength badReal firstBadReal firstFrom number numberAt realAt start bytes real row holds headRange radius second uvRange uRange vRange range ofBits ofFields odd toBits le lt eq neg
+refused-values = record {
+  triangle-long = refl;
+  triangle-passes = refl;
+  fewer-lent = refl;
+  empty = refl;
+  four-bytes = refl;
+  version-2 = refl;
+  kind-5 = refl;
+  sense-2 = refl;
+  segments-0 = refl;
+  segments-65 = refl;
+  loops-17 = refl;
+  in-counts = refl;
+  two-points = refl;
+  points-512 = refl;
+  points-513 = refl;
+  one-short = refl;
+  one-long = refl;
+  no-number = refl;
+  infinite = refl;
+  plane-radius = refl;
+  far-out = refl;
+}
+
+-- ---- its result
+
+abbrev triangleResult : Result
+triangleResult = record {
+  path = 0;
+  counts = 3 ∷ [];
+  areas = 6·0 ∷ [];
+  parameters = record { u = 0·0; v = 0·0 } ∷ record { u = 4·0; v = 0·0 } ∷ record { u = 0·0; v = 3·0 } ∷ [];
+  positions = record { x = 0·0; y = 0·0; z = 0·0 } ∷ record { x = 4·0; y = 0·0; z = 0·0 } ∷ record { x = 0·0; y = 3·0; z = 0·0 } ∷ [];
+}
+
+-- "134 out: `01 00 00 00 03 00`, 6.0, the three pairs, the three positions"
+abbrev written : List ℕ
+written =
+    1 ∷ 0 ∷ 0 ∷ 0 ∷ 3 ∷ 0 ∷
+    0 ∷ 0 ∷ 0 ∷ 0 ∷ 0 ∷ 0 ∷ 24 ∷ 64 ∷  -- 6
+    0 ∷ 0 ∷ 0 ∷ 0 ∷ 0 ∷ 0 ∷ 0 ∷ 0 ∷  -- 0
+    0 ∷ 0 ∷ 0 ∷ 0 ∷ 0 ∷ 0 ∷ 0 ∷ 0 ∷  -- 0
+    0 ∷ 0 ∷ 0 ∷ 0 ∷ 0 ∷ 0 ∷ 16 ∷ 64 ∷  -- 4
+    0 ∷ 0 ∷ 0 ∷ 0 ∷ 0 ∷ 0 ∷ 0 ∷ 0 ∷  -- 0
+    0 ∷ 0 ∷ 0 ∷ 0 ∷ 0 ∷ 0 ∷ 0 ∷ 0 ∷  -- 0
+    0 ∷ 0 ∷ 0 ∷ 0 ∷ 0 ∷ 0 ∷ 8 ∷ 64 ∷  -- 3
+    0 ∷ 0 ∷ 0 ∷ 0 ∷ 0 ∷ 0 ∷ 0 ∷ 0 ∷  -- 0
+    0 ∷ 0 ∷ 0 ∷ 0 ∷ 0 ∷ 0 ∷ 0 ∷ 0 ∷  -- 0
+    0 ∷ 0 ∷ 0 ∷ 0 ∷ 0 ∷ 0 ∷ 0 ∷ 0 ∷  -- 0
+    0 ∷ 0 ∷ 0 ∷ 0 ∷ 0 ∷ 0 ∷ 16 ∷ 64 ∷  -- 4
+    0 ∷ 0 ∷ 0 ∷ 0 ∷ 0 ∷ 0 ∷ 0 ∷ 0 ∷  -- 0
+    0 ∷ 0 ∷ 0 ∷ 0 ∷ 0 ∷ 0 ∷ 0 ∷ 0 ∷  -- 0
+    0 ∷ 0 ∷ 0 ∷ 0 ∷ 0 ∷ 0 ∷ 0 ∷ 0 ∷  -- 0
+    0 ∷ 0 ∷ 0 ∷ 0 ∷ 0 ∷ 0 ∷ 8 ∷ 64 ∷  -- 3
+    0 ∷ 0 ∷ 0 ∷ 0 ∷ 0 ∷ 0 ∷ 0 ∷ 0 ∷ []  -- 0
+
+pub record Records : Type 0 where
+  pub triangle-written : encode triangleResult ≡ written
+  pub triangle-read : decode written ≡ triangleResult
+  pub written-long : length written ≡ 134
+  -- 01, "The result record": "Empty input gives `00 02 00 00 00 00`."
+  pub empty-output : output (refused 2 0) ≡ 0 ∷ 2 ∷ 0 ∷ 0 ∷ 0 ∷ 0 ∷ []
+
+pub record-values : Records
+unfolding encode decode countsIn cornersIn row rowAt sum number numberAt bytes real realAt uv uvAt xyz xyzAt ofBits ofFields odd toBits
+record-values = record { triangle-written = refl; triangle-read = refl; written-long = refl; empty-output = refl }
