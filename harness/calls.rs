@@ -3,10 +3,10 @@
 
 use crate::faces::{Face, Loop, band, patch, whole};
 use crate::items::H;
+use crate::judge::{LENT, face_record};
 use crate::original::{Vec2, Vec3};
 use crate::patterns::moved;
 use crate::random::Random;
-use crate::record::{LENT, face_record};
 use crate::shapes::{KINDS, Kind, shape};
 
 /// What a call is given: so many result bytes, and a record.

@@ -9,11 +9,12 @@ mod compared;
 mod faces;
 mod generator;
 mod items;
+mod judge;
 mod loops;
 mod numbers;
 mod patterns;
 mod random;
-mod record;
+mod records;
 mod reference;
 mod report;
 mod shapes;
@@ -32,6 +33,7 @@ const LAYERS: &[(&str, fn(&Run))] = &[
     ("numbers", numbers::compare),
     ("surfaces", surfaces::compare),
     ("loops", loops::compare),
+    ("records", records::compare),
     ("generator", generator::meet_everything),
 ];
 

@@ -102,6 +102,8 @@ unsafe extern "C" {
     fn compared_mean_v(v: *const f64, v_len: usize) -> f64;
     fn compared_least(xs: *const f64, xs_len: usize) -> f64;
     fn compared_greatest(xs: *const f64, xs_len: usize) -> f64;
+    fn compared_refusal(face: *const u8, face_len: usize) -> u8;
+    fn compared_refusal_place(face: *const u8, face_len: usize) -> usize;
     fn compared_drop_repeats(
         u: *mut f64,
         u_len: usize,
@@ -189,4 +191,10 @@ pub fn drop_repeats(corners: &mut [Vec<f64>; 5], n: usize, ks: &mut [usize]) -> 
             ks.len(),
         )
     }
+}
+
+/// The number and the place of refusals 2 to 7, or zeros.
+pub fn refusal(face: &[u8]) -> (u8, usize) {
+    let (data, length) = (face.as_ptr(), face.len());
+    unsafe { (compared_refusal(data, length), compared_refusal_place(data, length)) }
 }

@@ -4,7 +4,7 @@
 use crate::branches::all_met;
 use crate::calls::call;
 use crate::faces::{band, patch, whole};
-use crate::record::{Answer, judge};
+use crate::judge::{Answer, judge};
 use crate::reference::{Path, close};
 use crate::report::Run;
 

@@ -50,6 +50,19 @@ impl Check {
         self.compare(inputs, rattle, rust);
     }
 
+    /// Compares the bytes answered to a record.
+    pub fn record(&mut self, record: &[u8], rattle: &[u8], rust: &[u8]) {
+        self.cases += 1;
+        if rattle != rust {
+            println!("comparison: {}: DIFFERENT", self.name);
+            for (what, bytes) in [("given", record), ("Rattle", rattle), ("Rust", rust)] {
+                let hex: String = bytes.iter().map(|b| format!("{b:02x}")).collect();
+                println!("  {what}: {} bytes {hex}", bytes.len());
+            }
+            std::process::exit(1);
+        }
+    }
+
     pub fn done(self) {
         println!(
             "comparison: {}: equal on {} random cases and {} edges",

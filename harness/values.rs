@@ -3,11 +3,11 @@
 
 use crate::faces::{Face, Loop};
 use crate::items::H;
+use crate::judge::{Answer, LENT, face_record, judge};
 use crate::original::{
     Domain, Interval, UvLoop, Vec2, Vec3, align_cuts, closed_region, merge_even, nearest_branch,
     net_wrap, signed_area,
 };
-use crate::record::{Answer, LENT, face_record, judge};
 use crate::shapes::{Kind, Shape};
 
 pub fn hold() {

@@ -2,5 +2,6 @@
 // equation of what it calls. The product does not link them.
 pub mod of_loops;
 pub mod of_numbers;
+pub mod of_records;
 pub mod of_repeats;
 pub mod of_surfaces;

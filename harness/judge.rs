@@ -16,6 +16,13 @@ pub enum Answer {
     Closed(Vec<u8>),
 }
 
+/// What the program `close` writes of a refusal.
+pub fn six_bytes(number: u32, place: u32) -> Vec<u8> {
+    let mut out = vec![0, number as u8];
+    out.extend(place.to_le_bytes());
+    out
+}
+
 fn refused(number: u32, place: usize) -> Result<(), Answer> {
     Err(Answer::Refused { number, place: place as u32 })
 }
@@ -69,15 +76,22 @@ pub fn judge(lent: usize, record: &[u8]) -> Answer {
     }
 }
 
+/// What the check of a record alone says: refusals 2 to 7.
+pub fn check(record: &[u8]) -> Result<Face, Answer> {
+    header(record)?;
+    let counts = counts(record)?;
+    noted(Branch::SixteenLoops, counts.len() == 16);
+    noted(Branch::PointsAt512, counts.iter().sum::<usize>() == 512);
+    let reals = reals(record, counts.len());
+    in_range(record, &reals)?;
+    Ok(face(record, &counts, &reals))
+}
+
 fn closed(lent: usize, record: &[u8]) -> Result<Vec<u8>, Answer> {
     if lent < LENT {
         refused(1, LENT)?;
     }
-    header(record)?;
-    let counts = counts(record)?;
-    let reals = reals(record, counts.len());
-    in_range(record, &reals)?;
-    let face = face(record, &counts, &reals);
+    let face = check(record)?;
     which_wrap(&face)?;
     let closing = close(&face).expect("a face that no earlier condition refuses is closed");
     if closing.path == Path::Wrapped {
@@ -87,8 +101,6 @@ fn closed(lent: usize, record: &[u8]) -> Result<Vec<u8>, Answer> {
             refused(12, strip_points())?;
         }
     }
-    noted(Branch::SixteenLoops, counts.len() == 16);
-    noted(Branch::PointsAt512, counts.iter().sum::<usize>() == 512);
     let loops: Vec<&UvLoop> = std::iter::once(&closing.outer).chain(&closing.holes).collect();
     Ok(result_record(closing.path, &loops))
 }
