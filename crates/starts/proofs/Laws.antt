@@ -1,22 +1,28 @@
 -- Two rings put to a start, on plain lists and numbers.
 use Prim.Native.Nat.{ℕ, _+_, _-_, _≤_, _<_}
 use mathlib.Core.Path.{_≡_, refl, sym, ap, _∙_}
+use mathlib.Core.Bool.{Bool, true, false, cond}
 use mathlib.Core.List.{List, _++_}
 use native.Mathlib.Omega.{arith}
+use borrow.Author.Tests.{lt-ltb, le-ltb}
+use lib.Dec.{ltb}
 use lib.Ieee.{Float, nan}
 use lib.ListN.{length, getD, take, drop}
 use Rattle.lists.specs.Parts.{onPart}
 use Rattle.lists.specs.Placed.{placed}
 use Rattle.lists.proofs.Parts.{part-is}
-use Rattle.lists.proofs.Placed.{on-placed, read-placed, before-placed}
+use Rattle.lists.proofs.Placed.{length-placed, on-placed, read-placed, before-placed}
 use Rattle.numbers.specs.Rounded.{_⊕_, _⊖_}
 use Rattle.loops.specs.Branch.{branchShift}
 use Rattle.rings.specs.declared.moves.Move.the-variants.{Up, Down}
-use Rattle.rings.specs.Choices.{firstOf, nearest}
+use Rattle.rings.specs.Choices.{firstOf, firstFrom, nearest, beginsBackward, serve}
 use Rattle.rings.specs.Moves.{movedBy}
 use Rattle.rings.specs.Turns.{unlessZero, beginRingAt, alignAt}
-use Rattle.rings.specs.Starts.{raise, alignedU, slidU, firstFor}
+use Rattle.rings.specs.Starts.{raise, alignedU, slidU, firstFor, laterFor, serves, firstServing, start}
+use Rattle.rings.proofs.Decisions.{Seeking, seeking, seeking-turn, seeking-found, seeking-end, serve-backward}
 use Rattle.rings.proofs.Lengths.{length-beginRingAt, length-alignAt, length-unlessZero}
+use Rattle.starts.specs.declared.Search.the-variants.{Found, NoRoom}
+use Rattle.starts.specs.Search.{served, tried, searchOf}
 
 module _ (period : Float) where
   pub begun-for : (k : ℕ) (us us′ : List Float) → us′ ≡ beginRingAt (movedBy (Up period)) k us → us′ ≡ firstFor period k us
@@ -71,3 +77,108 @@ module _ (period : Float) where
   first-put k us d d₁ us′ room copied e =
       part-is (firstFor period k) 0 (length us) d₁ us′ e ∙ ap (onPart (firstFor period k) 0 (length us)) copied
       ∙ on-placed 0 (length us) us d (omega arith) room (firstFor period k) (length-firstFor k us)
+
+-- ---- one trial
+
+module _ (period : Float) (first later : List Float) (k : ℕ) where
+  abbrev n : ℕ
+  n = length first
+
+  abbrev begun : List Float
+  begun = firstFor period k first
+
+  module _ (d d₁ : List Float) (room : n + length later ≤ length d) (put : d₁ ≡ placed 0 begun d) where
+    begun-read : take (n - 0) (drop 0 d₁) ≡ begun
+    begun-read =
+        let long = length-firstFor period k first in
+        ap (λ (l : List Float). take (n - 0) (drop 0 l)) put ∙ read-placed 0 n begun d (omega arith) (omega arith)
+
+    pub serves-backward : (t : Bool) → t ≡ beginsBackward (take (n - 0) (drop 0 d₁)) → t ≡ true → false ≡ serves period first later k
+    unfolding serves
+    serves-backward t e h = serve-backward period begun (laterFor period k first later) t (e ∙ ap beginsBackward begun-read) h
+
+    module _ (cut : Float) (d₂ : List Float) (cut-is : cut ≡ firstOf (take (n - 0) (drop 0 d₁))) (put₂ : d₂ ≡ placed n (putTo period cut later) d₁) where
+      there : n + length (putTo period cut later) ≡ n + length later
+      there = ap (λ (m : ℕ). n + m) (length-putTo period cut later)
+
+      room₁ : n + length later ≤ length d₁
+      room₁ = let long : length d₁ ≡ length d = ap length put ∙ length-placed 0 begun d in omega arith
+
+      begun-kept : take (n - 0) (drop 0 d₂) ≡ begun
+      begun-kept =
+          let whole : n - 0 ≡ n = omega arith in
+          ap (take (n - 0)) put₂ ∙ rw whole (before-placed n (n + length later) (putTo period cut later) d₁ there room₁) ∙ begun-read
+
+      later-read : take (n + length later - n) (drop n d₂) ≡ laterFor period k first later
+      unfolding laterFor
+      later-read =
+          ap (λ (l : List Float). take (n + length later - n) (drop n l)) put₂
+          ∙ read-placed n (n + length later) (putTo period cut later) d₁ there room₁
+          ∙ ap (λ (c : Float). putTo period c later) (cut-is ∙ ap firstOf begun-read)
+
+      pub serves-both : (t : Bool) → t ≡ serve period (take (n - 0) (drop 0 d₂)) (take (n + length later - n) (drop n d₂)) → t ≡ serves period first later k
+      unfolding serves
+      serves-both t e = e ∙ (λ i. serve period (begun-kept i) (later-read i))
+
+-- ---- the search: after k turns no start before k serves, and the trial has its length
+
+module _ (period : Float) (first later : List Float) where
+  pub record Trying (all : ℕ) (trial₀ trial : List Float) (k : ℕ) : Type 0 where
+    pub room : length first + length later ≤ length trial
+    pub long : length trial ≡ length trial₀
+    pub count : all ≡ length first - 1
+    pub seek : Seeking (serves period first later) all k
+
+  module _ (all : ℕ) (trial₀ : List Float) where
+    pub trying : length first + length later ≤ length trial₀ → all ≡ length first - 1 → Trying all trial₀ trial₀ 0
+    trying h e = record { room = h; long = refl; count = e; seek = seeking (serves period first later) all }
+
+    module _ (trial : List Float) (k : ℕ) (s : Trying all trial₀ trial k) where
+      pub trying-turn : (trial′ : List Float) (t : Bool) → length trial′ ≡ length trial → k < all → t ≡ serves period first later k → t ≡ false
+          → Trying all trial₀ trial′ (k + 1)
+      trying-turn trial′ t l h e f = record {
+        room = let r = s .room in omega arith;
+        long = l ∙ s .long;
+        count = s .count;
+        seek = seeking-turn (serves period first later) all k (s .seek) h (sym e ∙ f);
+      }
+
+      serving : firstFrom (serves period first later) 0 all ≡ firstServing period first later
+      unfolding firstServing
+      serving = ap (firstFrom (serves period first later) 0) (s .count)
+
+      pub trying-found : (t : Bool) → k < all → t ≡ serves period first later k → t ≡ true → k ≡ firstServing period first later
+      trying-found t h e f = sym (seeking-found (serves period first later) all k (s .seek) h (sym e ∙ f)) ∙ serving
+
+      pub trying-end : all ≤ k → all ≡ firstServing period first later
+      trying-end h = sym (seeking-end (serves period first later) all k (s .seek) h) ∙ serving
+
+-- ---- the answer
+
+module _ (period : Float) (first later : List Float) (room : ℕ) where
+  pub no-room : room < length first + length later → NoRoom ≡ searchOf period first later room
+  unfolding searchOf
+  no-room h = sym (rw (lt-ltb room (length first + length later) h))
+
+  module _ (fits : length first + length later ≤ room) (k all : ℕ) (k-is : k ≡ firstServing period first later) (all-is : all ≡ length first - 1) where
+    tested : (t : Bool) → ltb k all ≡ t → served period first later ≡ t
+    unfolding served
+    tested t e = (λ i. ltb (sym k-is i) (sym all-is i)) ∙ e
+
+    found : (t : Bool) → served period first later ≡ t
+        → searchOf period first later room ≡ Found (cond t k (cond (beginsBackward first) 1 0)) (cond t (k + 1) all) t
+    unfolding searchOf served tried start
+    found t e =
+        rw (le-ltb room (length first + length later) fits)
+        (λ i. Found (cond (e i) (sym k-is i) (cond (beginsBackward first) 1 0)) (cond (e i) (sym k-is i + 1) (sym all-is i)) (e i))
+
+    pub one-served : k < all → Found k (k + 1) true ≡ searchOf period first later room
+    one-served h = sym (found true (tested true (lt-ltb k all h)))
+
+    pub none-served : (b t : Bool) → all ≤ k → b ≡ beginsBackward first → b ≡ t → Found (cond t 1 0) all false ≡ searchOf period first later room
+    none-served b t h e f =
+        sym (found false (tested false (le-ltb k all h)) ∙ ap (λ (s : Bool). Found (cond s 1 0) all false) (sym e ∙ f))
+
+-- where there is room, nothing is said of a trial that is too short
+pub not-less : (T : Type 0) (room need : ℕ) → need ≤ room → room < need → T
+not-less T room need fits short = absurd (omega arith)
