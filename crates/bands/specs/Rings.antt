@@ -13,7 +13,8 @@ use Rattle.rings.specs.Choices.{leastU, greatestU, firstOf, stripShift, straddl
 use Rattle.rings.specs.Turns.{unlessZero, beginRingAt, alignAt}
 use Rattle.rings.specs.Starts.{start}
 use Rattle.bands.specs.Given.{Loop, Given}
-use Rattle.seam.specs.Gap.{Gap, spanOf, widestGap, usable}
+use Rattle.seam.specs.declared.gap.Gap.{Gap}
+use Rattle.seam.specs.Gap.{spanOf, widestGap, usable}
 
 -- the rings and the holes on their way
 pub record Face (A : Type 0) : Type 0 where

@@ -1,1 +1,2 @@
 pub mod EachHole
+pub mod Spans

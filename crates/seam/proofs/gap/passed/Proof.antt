@@ -1,0 +1,17 @@
+use mathlib.Core.Path.{sym}
+use Rattle.seam.proofs.Spans.{passed-wider, passed-not-wider}
+use borrow.Author.Needs.{needs}
+use Rattle.seam.proofs.gap.passed.Statement.{statement}
+use Rattle.seam.proofs.gap.passed.Tie as tie
+
+max-requires : tie.Need-max-requires
+max-requires c κs = search needs
+
+returns : tie.Need-returns
+returns c = sym (passed-wider _ _ _ _ (c .before .before .before .before .max .ensures) (c .before .if1 .taken))
+
+returns-2 : tie.Need-returns-2
+returns-2 c = sym (passed-not-wider _ _ _ _ (c .before .before .before .max .ensures) (c .if1 .left))
+
+pub passed-spec : {M : Type 1} → statement M
+passed-spec = tie.close (tie.spec max-requires returns returns-2)
