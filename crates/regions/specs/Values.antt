@@ -13,14 +13,14 @@ use Rattle.regions.specs.Outer.{billionth, outerOf, slackOf, encloses, e
 use Rattle.regions.specs.Rephase.{rephased, moved, shiftOf}
 
 -- the square of side n at the corner (0, 0)
-abbrev squareU : Float → List Float
+abbrev pub squareU : Float → List Float
 squareU n = count 0 ∷ n ∷ n ∷ count 0 ∷ []
 
-abbrev squareV : Float → List Float
+abbrev pub squareV : Float → List Float
 squareV n = count 0 ∷ count 0 ∷ n ∷ n ∷ []
 
 -- "Two equal squares: the second is outer."
-equal-squares : outerOf (boxesOf (squareU (count 1) ∷ squareU (count 1) ∷ []) (squareV (count 1) ∷ squareV (count 1) ∷ [])) (count 1 ∷ count 1 ∷ []) ≡ 1
+pub equal-squares : outerOf (boxesOf (squareU (count 1) ∷ squareU (count 1) ∷ []) (squareV (count 1) ∷ squareV (count 1) ∷ [])) (count 1 ∷ count 1 ∷ []) ≡ 1
 unfolding outerOf boxesOf leastOf greatestOf slackOf encloses every passing enclosesOther enclosesOthers enclosingOne lastLargest absOf add sub mul neg lt le ofBits ofInt
 equal-squares = refl
 

@@ -14,6 +14,11 @@ use Rattle.loops.specs.Area.{areaOf, crossSum, crossAt}
 use Rattle.loops.specs.Branch.{nearestBranch}
 use Rattle.loops.specs.Wrap.{netWrap, turnsCounted}
 use Rattle.loops.specs.Rings.{begun, closed}
+use Rattle.surfaces.specs.Rungs.{rungs}
+use Rattle.surfaces.specs.Values.{three, halves, no-width}
+use Rattle.regions.specs.Table.{boxesOf}
+use Rattle.regions.specs.Outer.{outerOf}
+use Rattle.regions.specs.Values.{squareU, squareV, equal-squares}
 use Rattle.rings.specs.Choices.{nearest, firstLeast}
 use Rattle.rings.specs.Turns.{turnedOnto, alignAt}
 use Rattle.bands.specs.Corners.{Corner}
@@ -57,8 +62,13 @@ pub record Starred : Type 0 where
   -- corners (0,0), (4,0), (0,3): area 6; reversed -6
   pub area : areaOf (count 0 ∷ count 4 ∷ count 0 ∷ []) (count 0 ∷ count 0 ∷ count 3 ∷ []) ≡ count 6
   pub area-reversed : areaOf (count 0 ∷ count 4 ∷ count 0 ∷ []) (count 3 ∷ count 0 ∷ count 0 ∷ []) ≡ neg (count 6)
+  -- `merge_even` of 0, 1, 2 steps: 0, 0.5, 1; of 3, 3, 4 steps: 3
+  pub rungs-halved : rungs plusZero one 2 ≡ plusZero ∷ half ∷ one ∷ []
+  pub rungs-of-no-width : rungs three three 4 ≡ three ∷ []
   -- period 4, cut 0, ring u 1, 2, 3, 4, 5, positions A B C D A: becomes u 0, 1, 2, 3, 4, D A B C D
   pub ring : alignCuts (count 4) (count 0) (at (count 1) A ∷ at (count 2) B ∷ at (count 3) C ∷ at (count 4) D ∷ at (count 5) A ∷ []) ≡ at (count 0) D ∷ at (count 1) A ∷ at (count 2) B ∷ at (count 3) C ∷ at (count 4) D ∷ []
+  -- two equal squares: the second is outer
+  pub second-square : outerOf (boxesOf (squareU one ∷ squareU one ∷ []) (squareV one ∷ squareV one ∷ [])) (one ∷ one ∷ []) ≡ 1
 
 pub starred : Starred
 unfolding roundAway floorOf absOf sqrtOf sincosOf nearestBranch netWrap turnsCounted areaOf crossSum crossAt alignCuts alignAt turnedOnto nearest firstLeast begun closed add sub mul div neg lt le eq ofBits toBits ofInt toSigned
@@ -84,5 +94,8 @@ starred =
       wraps-minus-8 = refl;
       area = refl;
       area-reversed = refl;
+      rungs-halved = halves;
+      rungs-of-no-width = no-width;
       ring = refl;
+      second-square = equal-squares;
     }
