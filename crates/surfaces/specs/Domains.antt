@@ -5,18 +5,18 @@ use Rattle.numbers.specs.Constants.{plusZero, H, TAU}
 use Rattle.numbers.specs.Rounded.{_⊘_}
 use Rattle.numbers.specs.Order.{absOf}
 use Rattle.numbers.specs.Trig.{tanOf}
+use Rattle.numbers.specs.declared.math.Interval.{Interval}
 use Rattle.surfaces.specs.declared.surface.Surface.{Surface}
 use Rattle.surfaces.specs.declared.surface.Surface.the-variants.{Plane, Cylinder, Cone, Sphere, Torus}
 use Rattle.surfaces.specs.declared.surface.Period.{Period}
 use Rattle.surfaces.specs.declared.surface.Period.the-variants.{Every, None}
-use Rattle.numbers.specs.declared.math.Interval.{Interval}
 use Rattle.surfaces.specs.declared.surface.Domain.{Domain}
 
--- 1e12, in the place of an end where there is none
+-- 1e12, for an end where there is none
 abbrev pub far : Float
 far = ofBits binary64 0x426d_1a94_a200_0000
 
--- 1e-12
+-- 1e-12: a cone whose tangent is no larger has no apex
 abbrev pub flat : Float
 flat = ofBits binary64 0x3d71_9799_812d_ea11
 
@@ -30,14 +30,14 @@ abbrev pub fullTurn : Interval
 fullTurn = between plusZero TAU
 
 -- 01, "The surface points": the period is TAU in u for all but the plane, and in v for the torus
-abbrev pub uPeriod : Surface → Period
+unfoldable pub uPeriod : Surface → Period
 uPeriod Plane = None
 uPeriod (Cylinder R) = Every TAU
 uPeriod (Cone R a) = Every TAU
 uPeriod (Sphere R) = Every TAU
 uPeriod (Torus R r) = Every TAU
 
-abbrev pub vPeriod : Surface → Period
+unfoldable pub vPeriod : Surface → Period
 vPeriod Plane = None
 vPeriod (Cylinder R) = None
 vPeriod (Cone R a) = None
@@ -68,5 +68,5 @@ vRange (Cone R a) = coneRange R (tanOf a)
 vRange (Sphere R) = between (neg H) H
 vRange (Torus R r) = fullTurn
 
-abbrev pub domainOf : Surface → Domain
+unfoldable pub domainOf : Surface → Domain
 domainOf s = record { u = uRange s; v = vRange s; «u_period» = uPeriod s; «v_period» = vPeriod s }

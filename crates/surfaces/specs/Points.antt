@@ -26,7 +26,7 @@ unfoldable pub torusOf : Frame → Float → Float → Float → Float → Vec3
 torusOf f R r u v = raisedOf f (R ⊕ r ⊗ sincosOf v .cos) u (r ⊗ sincosOf v .sin)
 
 -- "cylinder C + R(cos u x + sin u y) + v z; cone the same with R + v tan a"
-abbrev pub pointOf : Frame → Surface → Float → Float → Vec3
+unfoldable pub pointOf : Frame → Surface → Float → Float → Vec3
 pointOf f Plane u v = planeOf f u v
 pointOf f (Cylinder R) u v = raisedOf f R u v
 pointOf f (Cone R a) u v = raisedOf f (R ⊕ v ⊗ tanOf a) u v

@@ -1,5 +1,5 @@
 -- The rungs of `merge_even` (`knots.rs`) for no breaks (01, item 4): the even divisions of a stretch, less those too near the one kept before. Callers use the laws of proofs/knots.
--- The Rust sorts the divisions first. That changes nothing where lo ≤ hi and hi - lo are finite and n is at most 2 ^ 53 (proofs/knots/Rising.antt), and 01 leaves the rest free.
+-- The Rust sorts the divisions first. Where lo ≤ hi, where lo, hi and hi - lo are finite and n is at most 2 ^ 53, that changes nothing (proofs/knots/Rising.antt); 01 leaves the rest free.
 use Prim.Native.Nat.{ℕ, zero, suc, _-_, max}
 use mathlib.Core.Bool.{Bool, cond}
 use mathlib.Core.List.{List, [], _∷_, dropLast}

@@ -12,7 +12,7 @@ use Rattle.surfaces.specs.declared.surface.Surface.the-variants.{Plane, 
 use Rattle.surfaces.specs.Segments.{milli, segmentsOf}
 
 -- a wall is straight on a plane, cylinder and cone, and an arc of the radius or the minor radius on a sphere and a torus
-abbrev pub vStepsOf : Surface → Float → Float → Resolved → ℕ
+unfoldable pub vStepsOf : Surface → Float → Float → Resolved → ℕ
 vStepsOf Plane from to o = max (o .«min_edge_segments») 1
 vStepsOf (Cylinder R) from to o = max (o .«min_edge_segments») 1
 vStepsOf (Cone R a) from to o = max (o .«min_edge_segments») 1
@@ -35,6 +35,6 @@ alongSteps (Cylinder R) span o = 1
 alongSteps (Cone R a) span o = 1
 
 -- from lo to hi in u or in v, where the other parameter is `other`
-abbrev pub directionStepsOf : Surface → Axis → Float → Float → Float → Resolved → ℕ
+unfoldable pub directionStepsOf : Surface → Axis → Float → Float → Float → Resolved → ℕ
 directionStepsOf s U lo hi other o = aroundSteps s (hi ⊖ lo) other o
 directionStepsOf s «V» lo hi other o = alongSteps s (hi ⊖ lo) o

@@ -1,5 +1,5 @@
-// The rungs of `merge_even` of `knots.rs`, for surfaces that have no breaks. A `Vec` of them is
-// nowhere: they are counted as they come, and those asked for are written to a lent slice.
+// The rungs of `merge_even` of `knots.rs`, for surfaces that have no breaks. There is no list of
+// them: they are counted as they come, and those asked for are written to a lent slice.
 ghost use mathlib.Core.Path.{_≡_};
 ghost use Prim.Native.Nat.{_-_};
 ghost use lib.ListN.{length, drop};

@@ -59,6 +59,7 @@ fn clamp(x: f64, lo: f64, hi: f64) -> f64
     }
 }
 
+// Rust's `max` of two counts.
 pub fn larger(a: usize, b: usize) -> usize
     ensures { λ r. ⌜ r ≡ max a b ⌝ }
 {

@@ -11,19 +11,26 @@ use lib.Ieee.{Float, nan}
 use Rattle.surfaces.specs.Rungs.{near, keptAfter}
 
 pub data Kept (e : Float) : Float → List Float → List Float → Type 0 where
-  none : {last : Float} → Kept e last [] []
-  less : {last x : Float} {xs ks : List Float} → near e x last ≡ true → Kept e last xs ks → Kept e last (x ∷ xs) ks
-  more : {last x : Float} {xs ks : List Float} → near e x last ≡ false → Kept e x xs ks → Kept e last (x ∷ xs) (x ∷ ks)
+  done : {last : Float} → Kept e last [] []
+  dropped : {last x : Float} {xs ks : List Float} → near e x last ≡ true → Kept e last xs ks → Kept e last (x ∷ xs) ks
+  taken : {last x : Float} {xs ks : List Float} → near e x last ≡ false → Kept e x xs ks → Kept e last (x ∷ xs) (x ∷ ks)
+
+pub kept-step : (e last x : Float) (xs : List Float) → keptAfter e last (x ∷ xs) ≡ cond (near e x last) (keptAfter e last xs) (x ∷ keptAfter e x xs)
+unfolding keptAfter
+kept-step e last x xs = go (near e x last)
+  where
+    go : (t : Bool) → cond t (keptAfter e (cond t last x) xs) (x ∷ keptAfter e (cond t last x) xs) ≡ cond t (keptAfter e last xs) (x ∷ keptAfter e x xs)
+    go true = refl
+    go false = refl
 
 pub kept-after : (e last : Float) (xs : List Float) → Kept e last xs (keptAfter e last xs)
 unfolding keptAfter
-kept-after e last [] = none
-kept-after e last (x ∷ xs) = go (near e x last) refl (kept-after e last xs) (kept-after e x xs)
+kept-after e last [] = done
+kept-after e last (x ∷ xs) = rw (kept-step e last x xs) (go (near e x last) refl (kept-after e last xs) (kept-after e x xs))
   where
-    go : (t : Bool) → near e x last ≡ t → Kept e last xs (keptAfter e last xs) → Kept e x xs (keptAfter e x xs)
-        → Kept e last (x ∷ xs) (cond t (keptAfter e (cond t last x) xs) (x ∷ keptAfter e (cond t last x) xs))
-    go true h p q = less h p
-    go false h p q = more h q
+    go : (t : Bool) → near e x last ≡ t → Kept e last xs (keptAfter e last xs) → Kept e x xs (keptAfter e x xs) → Kept e last (x ∷ xs) (cond t (keptAfter e last xs) (x ∷ keptAfter e x xs))
+    go true h p q = dropped h p
+    go false h p q = taken h q
 
 -- x was kept as d, or is near d, the one kept before it
 abbrev pub Covers : Float → Float → Float → Type 0
@@ -31,33 +38,33 @@ Covers e x d = (d ≡ x) ⊎ (near e x d ≡ true)
 
 module _ {e : Float} where
   pub kept-few : {last : Float} {xs ks : List Float} → Kept e last xs ks → length ks ≤ length xs
-  kept-few none = omega arith
-  kept-few (less h k) = let l = kept-few k in omega arith
-  kept-few (more h k) = let l = kept-few k in omega arith
+  kept-few done = omega arith
+  kept-few (dropped h k) = let l = kept-few k in omega arith
+  kept-few (taken h k) = let l = kept-few k in omega arith
 
   -- what holds of each element holds of each that is kept
   pub kept-each : (P : Float → Type 0) {last : Float} {xs ks : List Float} → Kept e last xs ks → ((i : ℕ) → i < length xs → P (getD xs i nan)) → (j : ℕ) → j < length ks → P (getD ks j nan)
-  kept-each P none p j h = absurd (not-suc-le-zero h)
-  kept-each P (less n k) p j h = kept-each P k (λ i l. p (suc i) (suc-le-suc l)) j h
-  kept-each P (more n k) p zero h = p 0 (zero-lt-suc _)
-  kept-each P (more n k) p (suc j) h = kept-each P k (λ i l. p (suc i) (suc-le-suc l)) j (le-of-suc-le-suc h)
+  kept-each P done p j h = absurd (not-suc-le-zero h)
+  kept-each P (dropped n k) p j h = kept-each P k (λ i l. p (suc i) (suc-le-suc l)) j h
+  kept-each P (taken n k) p zero h = p 0 (zero-lt-suc _)
+  kept-each P (taken n k) p (suc j) h = kept-each P k (λ i l. p (suc i) (suc-le-suc l)) j (le-of-suc-le-suc h)
 
   -- no two neighbours are near
   pub kept-apart : {last : Float} {xs ks : List Float} → Kept e last xs ks → (j : ℕ) → j < length ks → near e (getD ks j nan) (getD (last ∷ ks) j nan) ≡ false
-  kept-apart none j h = absurd (not-suc-le-zero h)
-  kept-apart (less n k) j h = kept-apart k j h
-  kept-apart (more n k) zero h = n
-  kept-apart (more n k) (suc j) h = kept-apart k j (le-of-suc-le-suc h)
+  kept-apart done j h = absurd (not-suc-le-zero h)
+  kept-apart (dropped n k) j h = kept-apart k j h
+  kept-apart (taken n k) zero h = n
+  kept-apart (taken n k) (suc j) h = kept-apart k j (le-of-suc-le-suc h)
 
   pub kept-cover : {last : Float} {xs ks : List Float} → Kept e last xs ks → (i : ℕ) → i < length xs → (j : ℕ) × (j ≤ length ks) × Covers e (getD xs i nan) (getD (last ∷ ks) j nan)
-  kept-cover none i h = absurd (not-suc-le-zero h)
-  kept-cover (less n k) zero h = (0, omega arith, inr n)
-  kept-cover (less n k) (suc i) h = kept-cover k i (le-of-suc-le-suc h)
-  kept-cover (more n k) zero h = (1, omega arith, inl refl)
-  kept-cover (more n k) (suc i) h = let c = kept-cover k i (le-of-suc-le-suc h) in let l = c .1 in (suc (c .0), omega arith, c .2)
+  kept-cover done i h = absurd (not-suc-le-zero h)
+  kept-cover (dropped n k) zero h = (0, omega arith, inr n)
+  kept-cover (dropped n k) (suc i) h = kept-cover k i (le-of-suc-le-suc h)
+  kept-cover (taken n k) zero h = (1, omega arith, inl refl)
+  kept-cover (taken n k) (suc i) h = let c = kept-cover k i (le-of-suc-le-suc h) in let l = c .1 in (suc (c .0), omega arith, c .2)
 
   pub kept-last : {last x : Float} {xs ks : List Float} → Kept e last (x ∷ xs) ks → Covers e (getD (x ∷ xs) (length xs) nan) (getD (last ∷ ks) (length ks) nan)
-  kept-last {xs = []} (less n none) = inr n
-  kept-last {xs = y ∷ ys} (less n k) = kept-last k
-  kept-last {xs = []} (more n none) = inl refl
-  kept-last {xs = y ∷ ys} (more n k) = kept-last k
+  kept-last {xs = []} (dropped n done) = inr n
+  kept-last {xs = y ∷ ys} (dropped n k) = kept-last k
+  kept-last {xs = []} (taken n done) = inl refl
+  kept-last {xs = y ∷ ys} (taken n k) = kept-last k

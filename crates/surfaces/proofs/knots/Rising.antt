@@ -13,7 +13,7 @@ use Rattle.numbers.proofs.Signed.{le-trans-float, not-less}
 use Rattle.numbers.proofs.Magnitude.{within-finite, sub-pow}
 use Rattle.numbers.proofs.Monotone.{add-mono-right, mul-mono-right, div-mono, sub-nonneg, ofInt-mono, ofInt-finite, ofInt-positive}
 use Rattle.surfaces.specs.Rungs.{division, divisionsFrom, divisions, slackOf, kept, rungs}
-use Rattle.surfaces.proofs.knots.Kept.{Kept, none, less, more, kept-after}
+use Rattle.surfaces.proofs.knots.Kept.{Kept, done, dropped, taken, kept-after}
 use Rattle.surfaces.specs.Sorting.{insert, sorted, risingFrom, rising}
 
 -- lo ≤ hi, both finite, and so is their difference
@@ -74,9 +74,9 @@ lower-start x y [] h k = tt
 lower-start x y (z ∷ zs) h k = and-i (le x z) (risingFrom z zs) (le-trans-float x y z h (and-l (le y z) (risingFrom z zs) k)) (and-r (le y z) (risingFrom z zs) k)
 
 kept-rise : {e last : Float} {xs ks : List Float} → Kept e last xs ks → T (risingFrom last xs) → T (risingFrom last ks)
-kept-rise none h = tt
-kept-rise {last = last} (less {x = x} {xs = xs} n k) h = kept-rise k (lower-start last x xs (and-l (le last x) (risingFrom x xs) h) (and-r (le last x) (risingFrom x xs) h))
-kept-rise {last = last} (more {x = x} {xs = xs} {ks = ks} n k) h = and-i (le last x) (risingFrom x ks) (and-l (le last x) (risingFrom x xs) h) (kept-rise k (and-r (le last x) (risingFrom x xs) h))
+kept-rise done h = tt
+kept-rise {last = last} (dropped {x = x} {xs = xs} n k) h = kept-rise k (lower-start last x xs (and-l (le last x) (risingFrom x xs) h) (and-r (le last x) (risingFrom x xs) h))
+kept-rise {last = last} (taken {x = x} {xs = xs} {ks = ks} n k) h = and-i (le last x) (risingFrom x ks) (and-l (le last x) (risingFrom x xs) h) (kept-rise k (and-r (le last x) (risingFrom x xs) h))
 
 module _ (lo hi : Float) (n : ℕ) (s : Stretch lo hi) (few : n ≤ 2 ^ 53) where
   pub rungs-rise : T (rising (rungs lo hi n))

@@ -17,7 +17,7 @@ use Rattle.numbers.proofs.Monotone.{ofInt-positive}
 use Rattle.numbers.proofs.Zeros.{nil, plus-zero-is, none-of, plus-none, plus-zero, no-width, minus-self, minus-negative-zero}
 use Rattle.surfaces.specs.Rungs.{division, divisionsFrom, slackOf, nano, near, keptAfter, rungs, inner}
 use Rattle.surfaces.proofs.knots.Inner.{inner-length}
-use Rattle.surfaces.proofs.knots.Kept.{Kept, Covers, kept-after, kept-few, kept-each, kept-apart, kept-cover, kept-last}
+use Rattle.surfaces.proofs.knots.Kept.{Kept, Covers, kept-step, kept-after, kept-few, kept-each, kept-apart, kept-cover, kept-last}
 use Rattle.surfaces.proofs.knots.Rising.{Stretch}
 
 module _ (lo hi : Float) (n : ℕ) where
@@ -84,20 +84,23 @@ module _ (lo hi : Float) (n : ℕ) where
       let f = c .1 in
       rw rungs-are (c .0, omega arith, subst (λ (x : Float). Covers (slackOf lo hi) x (getD (division lo hi n 0 ∷ after) (c .0) nan)) q (c .2))
 
+top-division : (lo hi : Float) (m : ℕ) → getD (divisionsFrom lo hi (suc m) 1 (suc m)) (length (divisionsFrom lo hi (suc m) 2 m)) nan ≡ division lo hi (suc m) (suc m)
+top-division lo hi m =
+    let n = suc m in
+    let e : 1 + m ≡ n = omega arith in
+    let h : m < n = omega arith in
+    ap (λ (j : ℕ). getD (divisionsFrom lo hi n 1 n) j nan) (from-length lo hi n 2 m) ∙ from-at lo hi n 1 n m h ∙ ap (division lo hi n) e
+
 -- the last division is the last rung, or is near it
 pub rungs-last : (lo hi : Float) (n : ℕ) → Covers (slackOf lo hi) (division lo hi n n) (getD (rungs lo hi n) (length (rungs lo hi n) - 1) nan)
 unfolding after divisionsFrom keptAfter
 rungs-last lo hi zero = rw (rungs-are lo hi 0) (inl refl)
 rungs-last lo hi (suc m) =
     let n = suc m in
-    let e : slackOf lo hi ≡ slackOf lo hi = refl in
-    let top : getD (divisionsFrom lo hi n 1 n) (length (divisionsFrom lo hi n 2 m)) nan ≡ division lo hi n n =
-    (let q : 1 + m ≡ n = omega arith in
-    let h : m < n = omega arith in
-    ap (λ (j : ℕ). getD (divisionsFrom lo hi n 1 n) j nan) (from-length lo hi n 2 m) ∙ from-at lo hi n 1 n m h ∙ ap (division lo hi n) q) in
-    let one : length (division lo hi n 0 ∷ after lo hi n) - 1 ≡ length (after lo hi n) = omega arith in
-    rw (rungs-are lo hi n, one)
-    (subst (λ (x : Float). Covers (slackOf lo hi) x (getD (division lo hi n 0 ∷ after lo hi n) (length (after lo hi n)) nan)) top (kept-last (kept lo hi n)))
+    let first = division lo hi n 0 in
+    let all = after lo hi n in
+    let length-is : length (first ∷ all) - 1 ≡ length all = omega arith in
+    rw (rungs-are lo hi n, length-is) (subst (λ (x : Float). Covers (slackOf lo hi) x (getD (first ∷ all) (length all) nan)) (top-division lo hi m) (kept-last (kept lo hi n)))
 
 -- ---- the first is lo + 0.0: lo as a number, and 0.0 for -0.0
 first-division : (lo hi : Float) (n : ℕ) → Stretch lo hi → n ≤ 2 ^ 53 → division lo hi n 0 ≡ lo ⊕ plusZero
@@ -137,10 +140,10 @@ module _ (lo : Float) (n : ℕ) (held : T (fits binary64 lo)) (lower : T (finite
   none-after i (suc k) h =
       let e = slackOf lo lo in
       let x = lo ⊕ plusZero in
+      let d = division lo lo n i in
       let rest = divisionsFrom lo lo n (suc i) k in
-      let dropped : near e (division lo lo n i) x ≡ true = ap (λ (d : Float). near e d x) (equal-division i (omega arith)) ∙ near-itself x (plus-zero lo held lower .1) in
-      ap (λ (b : Bool). cond b (keptAfter e (cond b x (division lo lo n i)) rest) (division lo lo n i ∷ keptAfter e (cond b x (division lo lo n i)) rest)) dropped
-      ∙ none-after (suc i) k (omega arith)
+      let same : near e d x ≡ true = ap (λ (z : Float). near e z x) (equal-division i (omega arith)) ∙ near-itself x (plus-zero lo held lower .1) in
+      kept-step e x d rest ∙ ap (λ (b : Bool). cond b (keptAfter e x rest) (d ∷ keptAfter e d rest)) same ∙ none-after (suc i) k (omega arith)
 
   pub rungs-of-equal : rungs lo lo n ≡ (lo ⊕ plusZero) ∷ []
   unfolding after

@@ -11,6 +11,7 @@ use lib.Seq.{sets, drop-nil, set-out}
 use lib.Ieee.{Float}
 use borrow.Author.Tests.{not-true, not-false, leb-true, leb-false, le-leb, lt-leb}
 use Rattle.surfaces.specs.Rungs.{division, divisionsFrom, slackOf, near, keptAfter, rungs, placed}
+use Rattle.surfaces.proofs.knots.Kept.{kept-step}
 
 -- ---- elements stored as those of number k, k + 1, .. of a list whose number `from` stands at 0
 unfoldable pub writes : ℕ → ℕ → List Float → List Float → List Float
@@ -76,16 +77,10 @@ module _ (lo hi : Float) (n : ℕ) (e : Float) where
   next i h = let q : n - i ≡ suc (n - (i + 1)) = omega arith in rw (q, add-one)
 
   left-step : (last : Float) (i : ℕ) {x : Float} {r : Bool} (t : Bool) → i < n → x ≡ division lo hi n (i + 1) → r ≡ near e x last → r ≡ t → left last i ≡ cond t (left last (i + 1)) (x ∷ left x (i + 1))
-  unfolding keptAfter
   left-step last i {x} t h p q s =
       let rest = divisionsFrom lo hi n (suc (i + 1)) (n - (i + 1)) in
-      ap (keptAfter e last) (next i h ∙ ap (λ (y : Float). y ∷ rest) (sym p))
-      ∙ ap (λ (b : Bool). cond b (keptAfter e (cond b last x) rest) (x ∷ keptAfter e (cond b last x) rest)) (sym q ∙ s)
-      ∙ known t
-    where
-      known : (t : Bool) → cond t (keptAfter e (cond t last x) (divisionsFrom lo hi n (suc (i + 1)) (n - (i + 1)))) (x ∷ keptAfter e (cond t last x) (divisionsFrom lo hi n (suc (i + 1)) (n - (i + 1)))) ≡ cond t (left last (i + 1)) (x ∷ left x (i + 1))
-      known true = refl
-      known false = refl
+      ap (keptAfter e last) (next i h ∙ ap (λ (y : Float). y ∷ rest) (sym p)) ∙ kept-step e last x rest
+      ∙ ap (λ (b : Bool). cond b (left last (i + 1)) (x ∷ left x (i + 1))) (sym q ∙ s)
 
   left-none : (last : Float) (i : ℕ) → n ≤ i → left last i ≡ []
   unfolding keptAfter divisionsFrom

@@ -16,6 +16,7 @@ module _ (B : ℕ) (from to : Float) (o : Resolved) where
 
   -- two v that differ by at most B are at most 1000 B steps apart, unless more are asked for
   pub v-steps-few : (s : Surface) → Held (B * 1000) → Within B (to ⊖ from) → vStepsOf s from to o ≤ max (max (B * 1000) (o .«min_edge_segments»)) 1
+  unfolding vStepsOf
   v-steps-few Plane h w = straight
   v-steps-few (Cylinder R) h w = straight
   v-steps-few (Cone R a) h w = straight
@@ -23,6 +24,7 @@ module _ (B : ℕ) (from to : Float) (o : Resolved) where
   v-steps-few (Torus R r) h w = segments-few B o r (to ⊖ from) h w
 
 pub v-steps-some : (s : Surface) (from to : Float) (o : Resolved) → 0 < vStepsOf s from to o
+unfolding vStepsOf
 v-steps-some Plane from to o = omega arith
 v-steps-some (Cylinder R) from to o = omega arith
 v-steps-some (Cone R a) from to o = omega arith

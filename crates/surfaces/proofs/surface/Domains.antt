@@ -11,6 +11,7 @@ use Rattle.surfaces.specs.Domains.{between, fullTurn, uPeriod, vPeriod, 
 use Rattle.surfaces.proofs.knots.Rising.{Stretch}
 
 pub u-periods : (s : Surface) → (s ≡ Plane) ⊎ (uPeriod s ≡ Every TAU)
+unfolding uPeriod
 u-periods Plane = inl refl
 u-periods (Cylinder R) = inr refl
 u-periods (Cone R a) = inr refl
@@ -18,6 +19,7 @@ u-periods (Sphere R) = inr refl
 u-periods (Torus R r) = inr refl
 
 pub v-periods : (s : Surface) → (vPeriod s ≡ None) ⊎ ((R : Float) × (r : Float) × (s ≡ Torus R r) × (vPeriod s ≡ Every TAU))
+unfolding vPeriod
 v-periods Plane = inl refl
 v-periods (Cylinder R) = inl refl
 v-periods (Cone R a) = inl refl
@@ -25,9 +27,11 @@ v-periods (Sphere R) = inl refl
 v-periods (Torus R r) = inr (R, r, refl, refl)
 
 pub sphere-domain : (R : Float) → domainOf (Sphere R) ≡ record { u = fullTurn; v = between (neg H) H; «u_period» = Every TAU; «v_period» = None }
+unfolding domainOf uPeriod vPeriod
 sphere-domain R = refl
 
 pub torus-domain : (R r : Float) → domainOf (Torus R r) ≡ record { u = fullTurn; v = fullTurn; «u_period» = Every TAU; «v_period» = Every TAU }
+unfolding domainOf uPeriod vPeriod
 torus-domain R r = refl
 
 pub turn-stretch : Stretch plusZero TAU

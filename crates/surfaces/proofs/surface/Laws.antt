@@ -40,6 +40,7 @@ pub of-kind : (f : Frame) (u v : Float) {s k : Surface} {w : Vec3} → s ≡ k �
 of-kind f u v e h = h ∙ ap (λ (z : Surface). pointOf f z u v) (sym e)
 
 pub cone-law : (f : Frame) (R a u v : Float) {t : Float} {w : Vec3} → t ≡ tanOf a → w ≡ raisedOf f (R ⊕ v ⊗ t) u v → w ≡ pointOf f (Cone R a) u v
+unfolding pointOf
 cone-law f R a u v e h = cc
 
 -- ---- the range of a cone

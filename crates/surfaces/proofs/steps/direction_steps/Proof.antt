@@ -1,3 +1,4 @@
+use Rattle.surfaces.specs.Steps.{directionStepsOf}
 use Rattle.surfaces.proofs.steps.Laws as laws
 use borrow.Author.Needs.{needs}
 use Rattle.surfaces.proofs.steps.direction_steps.Statement.{statement}
@@ -16,9 +17,11 @@ along-steps-requires : tie.Need-along-steps-requires
 along-steps-requires c κs = search needs
 
 returns : tie.Need-returns
+unfolding directionStepsOf
 returns c = laws.direction (c .before .enum-told .given .1) _ _ _ _ _ (c .around-steps .ensures)
 
 returns-2 : tie.Need-returns-2
+unfolding directionStepsOf
 returns-2 c = laws.direction (c .before .enum-told2 .given .1) _ _ _ _ _ (c .along-steps .ensures)
 
 pub direction-steps-spec : {M : Type 1} → statement M

@@ -1,3 +1,4 @@
+use Rattle.surfaces.specs.Domains.{domainOf}
 use borrow.Author.Needs.{needs}
 use Rattle.surfaces.proofs.surface.Surface.domain.Statement.{statement}
 use Rattle.surfaces.proofs.surface.Surface.domain.Tie as tie
@@ -15,6 +16,7 @@ v-period-requires : tie.Need-v-period-requires
 v-period-requires c κs = search needs
 
 returns : tie.Need-returns
+unfolding domainOf
 returns c = cc
 
 pub domain-spec : {M : Type 1} → statement M

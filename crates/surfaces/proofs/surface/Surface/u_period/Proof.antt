@@ -20,18 +20,23 @@ enum-told-5 : tie.Need-enum-told-5
 enum-told-5 c = search needs
 
 returns : tie.Need-returns
+unfolding uPeriod
 returns c = search needs
 
 returns-2 : tie.Need-returns-2
+unfolding uPeriod
 returns-2 c = sym (ap uPeriod (c .enum-told2 .given .1))
 
 returns-3 : tie.Need-returns-3
+unfolding uPeriod
 returns-3 c = sym (ap uPeriod (c .enum-told3 .given .1))
 
 returns-4 : tie.Need-returns-4
+unfolding uPeriod
 returns-4 c = sym (ap uPeriod (c .enum-told4 .given .1))
 
 returns-5 : tie.Need-returns-5
+unfolding uPeriod
 returns-5 c = sym (ap uPeriod (c .enum-told5 .given .1))
 
 pub u-period-spec : {M : Type 1} → statement M

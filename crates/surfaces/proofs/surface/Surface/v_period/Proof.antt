@@ -20,18 +20,23 @@ enum-told-5 : tie.Need-enum-told-5
 enum-told-5 c = search needs
 
 returns : tie.Need-returns
+unfolding vPeriod
 returns c = search needs
 
 returns-2 : tie.Need-returns-2
+unfolding vPeriod
 returns-2 c = search needs
 
 returns-3 : tie.Need-returns-3
+unfolding vPeriod
 returns-3 c = search needs
 
 returns-4 : tie.Need-returns-4
+unfolding vPeriod
 returns-4 c = search needs
 
 returns-5 : tie.Need-returns-5
+unfolding vPeriod
 returns-5 c = sym (ap vPeriod (c .enum-told5 .given .1))
 
 pub v-period-spec : {M : Type 1} → statement M
