@@ -24,6 +24,12 @@ use Rattle.rings.proofs.Lengths.{length-beginRingAt, length-alignAt, length-unl
 use Rattle.starts.specs.declared.Search.the-variants.{Found, NoRoom}
 use Rattle.starts.specs.Search.{served, tried, searchOf}
 
+-- a copy in a trial, on which a call has done f where it stands
+pub copy-changed : (f : List Float → List Float) (at e : ℕ) (us d d₁ us′ : List Float) → length (f us) ≡ length us → at + length us ≡ e → e ≤ length d
+    → d₁ ≡ placed at us d → us′ ≡ f (take (e - at) (drop at d₁)) → take at d₁ ++ (us′ ++ drop (e - at) (drop at d₁)) ≡ placed at (f us) d
+copy-changed f at e us d d₁ us′ same end-is room copied done =
+    part-is f at e d₁ us′ done ∙ ap (onPart f at e) copied ∙ on-placed at e us d end-is room f same
+
 module _ (period : Float) where
   pub begun-for : (k : ℕ) (us us′ : List Float) → us′ ≡ beginRingAt (movedBy (Up period)) k us → us′ ≡ firstFor period k us
   unfolding firstFor
@@ -62,21 +68,6 @@ module _ (period : Float) where
           → us₁ ≡ alignAt (movedBy (Up period)) (movedBy (Down shift)) k us
           → begin ≡ firstOf us₁ → us₂ ≡ unlessZero (cut ⊖ begin) (movedBy (Up (cut ⊖ begin))) us₁ → us₂ ≡ putTo us
       put-to k-is x-is shift-is e₁ begin-is e₂ = slid-by begin-is e₂ ∙ ap (slidU period cut) (aligned-by k-is x-is shift-is e₁)
-
-    -- the part of a trial that a call has changed
-    pub later-put : (from : ℕ) (us d d₁ us′ : List Float) → from + length us ≤ length d → d₁ ≡ placed from us d
-        → us′ ≡ putTo (take (from + length us - from) (drop from d₁))
-        → take from d₁ ++ (us′ ++ drop (from + length us - from) (drop from d₁)) ≡ placed from (putTo us) d
-    later-put from us d d₁ us′ room copied e =
-        part-is putTo from (from + length us) d₁ us′ e ∙ ap (onPart putTo from (from + length us)) copied
-        ∙ on-placed from (from + length us) us d refl room putTo (length-putTo us)
-
-  pub first-put : (k : ℕ) (us d d₁ us′ : List Float) → length us ≤ length d → d₁ ≡ placed 0 us d
-      → us′ ≡ firstFor period k (take (length us - 0) (drop 0 d₁))
-      → take 0 d₁ ++ (us′ ++ drop (length us - 0) (drop 0 d₁)) ≡ placed 0 (firstFor period k us) d
-  first-put k us d d₁ us′ room copied e =
-      part-is (firstFor period k) 0 (length us) d₁ us′ e ∙ ap (onPart (firstFor period k) 0 (length us)) copied
-      ∙ on-placed 0 (length us) us d (omega arith) room (firstFor period k) (length-firstFor k us)
 
 -- ---- one trial
 

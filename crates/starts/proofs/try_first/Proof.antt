@@ -1,3 +1,6 @@
+use native.Mathlib.Nat.{zero-add}
+use lib.ListN.{length}
+use Rattle.rings.specs.Starts.{firstFor}
 use Rattle.starts.proofs.Laws as laws
 use borrow.Author.Needs.{needs}
 use Rattle.starts.proofs.try_first.Statement.{statement}
@@ -22,7 +25,11 @@ same-length : tie.Need-same-length
 same-length c = search needs
 
 returns : tie.Need-returns
-returns c = laws.first-put (c .before .before .before .before .before .before .before .before .before .before .args .period) (c .before .before .before .before .before .before .before .before .before .before .args .k) _ _ _ _ (c .before .before .before .before .before .before .before .before .before .before .pre) (c .before .before .before .before .before .before .copy-into .ensures) (c .before .before .first-for .ensures)
+returns c =
+    let first = c .before .before .before .before .before .before .before .before .before .before .args .first .now in
+    let begun = firstFor (c .before .before .before .before .before .before .before .before .before .before .args .period) (c .before .before .before .before .before .before .before .before .before .before .args .k) in
+    laws.copy-changed begun 0 (length first) first _ _ _ (laws.length-firstFor (c .before .before .before .before .before .before .before .before .before .before .args .period) (c .before .before .before .before .before .before .before .before .before .before .args .k) first) (zero-add (length first)) (c .before .before .before .before .before .before .before .before .before .before .pre)
+    (c .before .before .before .before .before .before .copy-into .ensures) (c .before .before .first-for .ensures)
 
 pub try-first-spec : {M : Type 1} → statement M
 try-first-spec =

@@ -1,3 +1,4 @@
+use mathlib.Core.Path.{refl}
 use Rattle.starts.proofs.Laws as laws
 use borrow.Author.Needs.{needs}
 use Rattle.starts.proofs.try_later.Statement.{statement}
@@ -28,7 +29,10 @@ same-length : tie.Need-same-length
 same-length c = search needs
 
 returns : tie.Need-returns
-returns c = laws.later-put (c .before .before .before .before .before .before .before .before .before .before .args .period) (c .before .before .before .before .before .before .before .before .before .before .args .cut) (c .before .before .before .before .before .before .before .before .before .before .args .from) _ _ _ _ (c .before .before .before .before .before .before .before .before .before .before .pre) (c .before .before .before .before .before .before .copy-into .ensures) (c .before .before .later-for .ensures)
+returns c =
+    let later = c .before .before .before .before .before .before .before .before .before .before .args .later .now in
+    laws.copy-changed (laws.putTo (c .before .before .before .before .before .before .before .before .before .before .args .period) (c .before .before .before .before .before .before .before .before .before .before .args .cut)) (c .before .before .before .before .before .before .before .before .before .before .args .from) _ later _ _ _ (laws.length-putTo (c .before .before .before .before .before .before .before .before .before .before .args .period) (c .before .before .before .before .before .before .before .before .before .before .args .cut) later) refl (c .before .before .before .before .before .before .before .before .before .before .pre)
+    (c .before .before .before .before .before .before .copy-into .ensures) (c .before .before .later-for .ensures)
 
 pub try-later-spec : {M : Type 1} → statement M
 try-later-spec =
