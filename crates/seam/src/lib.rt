@@ -3,3 +3,4 @@
 // slice, with a slice of their counts.
 pub mod gap;
 pub mod holes;
+pub mod reseam;
