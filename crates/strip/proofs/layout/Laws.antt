@@ -1,12 +1,13 @@
 -- The layout of a strip, on plain lists and numbers.
-use Prim.Native.Nat.{ℕ, zero, suc, _+_, _-_, _*_, _^_, _≤_, _<_, min}
+use Prim.Native.Nat.{ℕ, _+_, _-_, _*_, _^_, _≤_, _<_, min}
 use mathlib.Core.Path.{_≡_, refl, sym, ap, _∙_}
-use mathlib.Core.List.{List, [], _∷_, _++_, reverse, reverse-cons}
+use mathlib.Core.List.{List, [], _∷_, _++_, reverse}
 use native.Mathlib.Omega.{arith}
 use lib.Ieee.{Float}
 use lib.ListN.{length, set, replicate, length-append, length-reverse, length-replicate}
 use lib.Seq.{append-snoc}
 use Rattle.lists.specs.Placed.{placed}
+use Rattle.lists.proofs.Elements.{reverse-replicate}
 use Rattle.lists.proofs.Placed.{placed-after, placed-grows, placed-short}
 use Rattle.strip.specs.Layout.{stripOf, countOf, capped}
 
@@ -96,15 +97,6 @@ module _ (lower wall₁ upper wall₂ d : List Float) (c₁ c₂ : Float) (n m k
       stretch-more (w₃ ++ (c₂ ∷ reverse upper)) d d₅ d₆ (n + k + 2 + m) (reverse wall₂) f₅ (omega arith) (omega arith) e₆
 
 -- ---- walls of one element
-
-snoc-replicate : (n : ℕ) (x : Float) → replicate n x ++ (x ∷ []) ≡ x ∷ replicate n x
-snoc-replicate zero x = refl
-snoc-replicate (suc n) x = ap (λ (l : List Float). x ∷ l) (snoc-replicate n x)
-
-pub reverse-replicate : (n : ℕ) (x : Float) → reverse (replicate n x) ≡ replicate n x
-reverse-replicate zero x = refl
-reverse-replicate (suc n) x =
-    reverse-cons x (replicate n x) ∙ ap (λ (l : List Float). l ++ (x ∷ [])) (reverse-replicate n x) ∙ snoc-replicate n x
 
 -- what is laid of one element is laid reversed
 pub laid-reversed : (n at : ℕ) (x : Float) (d₁ d₂ : List Float) → d₂ ≡ placed at (replicate n x) d₁ → d₂ ≡ placed at (reverse (replicate n x)) d₁
