@@ -7,7 +7,7 @@ use borrow.Author.Tests.{eq-eqb}
 use lib.Ieee.{Float, nan, inf, fin, lt}
 use lib.Ieee.Scale.{finite}
 use lib.ListN.{length, length-map}
-use Rattle.lists.specs.Pieces.{pieces}
+use Rattle.lists.specs.Pieces.{pieces, mapPieces}
 use Rattle.lists.specs.Placed.{placed}
 use Rattle.lists.proofs.Pieces.{length-pieces}
 use Rattle.lists.proofs.Placed.{placed-whole}
@@ -18,8 +18,9 @@ use Rattle.rings.specs.Moves.{movedBy}
 use Rattle.rings.specs.declared.moves.Move.the-variants.{Up}
 use Rattle.seam.specs.declared.gap.Gap.{Gap}
 use Rattle.seam.specs.Gap.{Span, spanOf, sorted, gapAlong, widestGap, spansOf, lowsOf, highsOf, sortedLows, sortedHighs}
-use Rattle.seam.specs.Holes.{endOf}
-use Rattle.seam.specs.Reseam.{hasStrip, recutU}
+use Rattle.seam.specs.Holes.{ontoU, endOf}
+use Rattle.seam.specs.declared.reseam.Reseamed.the-variants.{Recut}
+use Rattle.seam.specs.Reseam.{hasStrip, recutU, ontoAll}
 use Rattle.seam.proofs.Spans.{spans-back}
 
 -- ---- finite: between the infinities
@@ -96,3 +97,10 @@ module _ (ns : List ℕ) (us : List Float) where
 pub recut-is : (period cut : Float) (us us′ : List Float) (k : ℕ) → k ≡ firstPast cut us → us′ ≡ begun (movedBy (Up period)) k us → (k ≡ firstPast cut us) × (us′ ≡ recutU period cut us)
 unfolding recutU
 recut-is period cut us us′ k e d = (e, d ∙ ap (λ (n : ℕ). begun (λ u. u ⊕ period) n us) e)
+
+pub anew-is : (period cut : Float) (ns : List ℕ) (first first′ later later′ holes holes′ : List Float) (j k : ℕ)
+    → (j ≡ firstPast cut first) × (first′ ≡ recutU period cut first) → (k ≡ firstPast cut later) × (later′ ≡ recutU period cut later)
+    → holes′ ≡ mapPieces (ontoU period cut) ns holes
+    → (Recut j k ≡ Recut (firstPast cut first) (firstPast cut later)) × ((first′ ≡ recutU period cut first) × ((later′ ≡ recutU period cut later) × (holes′ ≡ ontoAll period ns cut holes)))
+unfolding ontoAll
+anew-is period cut ns first first′ later later′ holes holes′ j k (a, b) (c, d) e = ((λ i. Recut (a i) (c i)), (b, (d, e)))

@@ -7,11 +7,13 @@ ghost use lib.ListN.{length};
 ghost use Rattle.lists.specs.Pieces.{pieces};
 ghost use Rattle.rings.specs.Choices.{firstPast};
 ghost use Rattle.seam.specs.Gap.{spanOf, widestGap};
-ghost use Rattle.seam.specs.Reseam.{hasStrip, recutU};
+ghost use Rattle.seam.specs.Reseam.{hasStrip, recutU, ontoAll};
+ghost use Rattle.seam.specs.declared.reseam.Reseamed.the-variants.{Recut};
 use crate::gap::Gap;
 use crate::gap::sort_spans;
 use crate::gap::widest_gap;
 use crate::holes::ends_into;
+use crate::holes::onto_all;
 use rings::choices::first_past;
 use rings::choices::greatest_u;
 use rings::moves::Move;
@@ -84,4 +86,24 @@ fn recut(u: &mut [f64], cut: f64, period: f64) -> usize
     let k = first_past(u, cut);
     begin(u, k, Move::Up(period));
     k
+}
+
+// The rings begun anew at the cut, and the holes brought onto the strip that begins there.
+fn cut_anew(
+    first: &mut [f64],
+    later: &mut [f64],
+    holes: &mut [f64],
+    counts: &[usize],
+    cut: f64,
+    period: f64,
+) -> Reseamed
+    ensures { λ r. ⌜ r ≡ Recut (firstPast cut (now (first .entry))) (firstPast cut (now (later .entry))) ⌝ }
+    ensures { λ _. ⌜ now (first .exit) ≡ recutU period cut (now (first .entry)) ⌝ }
+    ensures { λ _. ⌜ now (later .exit) ≡ recutU period cut (now (later .entry)) ⌝ }
+    ensures { λ _. ⌜ now (holes .exit) ≡ ontoAll period (now (counts .entry)) cut (now (holes .entry)) ⌝ }
+{
+    let j = recut(first, cut, period);
+    let k = recut(later, cut, period);
+    onto_all(holes, counts, cut, period);
+    Reseamed::Recut { first: j, later: k }
 }
