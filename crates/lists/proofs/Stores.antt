@@ -1,4 +1,4 @@
--- A run of stores into a list, `sets`, where it has room for a part of them only, or is a part of a longer list.
+-- A run of stores into a list, `sets`: two runs, one behind the other; where the list has room for a part of them only, or is a part of a longer one.
 use Prim.Native.Nat.{ℕ, zero, suc, _+_, _-_, _≤_, _<_}
 use mathlib.Core.Path.{_≡_, refl, sym, ap, _∙_}
 use mathlib.Core.List.{List, [], _∷_, _++_, append-nil}
@@ -10,6 +10,11 @@ use borrow.Author.Tests.{ltb-true, ltb-false}
 use mathlib.Core.Bool.{Bool, true, false}
 
 module _ {A : Type 0} where
+  -- one run behind another
+  pub sets-append : (l : List A) (i j : ℕ) (vs ws : List A) → j ≡ i + length vs → sets (sets l i vs) j ws ≡ sets l i (vs ++ ws)
+  sets-append l i j [] ws e = let f : j ≡ i = omega arith in rw f
+  sets-append l i j (v ∷ vs) ws e = sets-append (set l i v) (suc i) j vs ws (omega arith)
+
   -- stores past the end do nothing
   pub sets-past : (l : List A) (i : ℕ) (vs : List A) → length l ≤ i → sets l i vs ≡ l
   sets-past l i [] h = refl

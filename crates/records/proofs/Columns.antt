@@ -4,44 +4,31 @@ use mathlib.Core.Bool.{Bool, true, false, _&&_, cond}
 use mathlib.Core.List.{List, [], _∷_, _++_, map}
 use Prim.Native.Nat.{ℕ, zero, suc, _+_, _-_, _*_, _≤_, _<_}
 use native.Mathlib.Nat.{mul-le-mul-left}
-use native.Mathlib.Numerals.{add-one}
 use native.Mathlib.Omega.{arith}
-use lib.ListN.{length, getD, take, drop, set, length-set}
-use lib.Seq.{paste-suc, take-all}
+use lib.ListN.{length, getD, set}
+use lib.Seq.{take-all}
 use lib.Ieee.{Float, nan}
+use Rattle.lists.proofs.Filling as lists
 use Rattle.records.specs.Bytes.{u16At, realAt, uvAt, xyzAt, rowAt}
 use Rattle.records.specs.Face.{headerSize, headReals, loops, count, counts, head, points, realPlace, parameters, positions}
 use Rattle.records.specs.Lent.{front, uOf, vOf, xOf, yOf, zOf}
 use Rattle.records.proofs.Rows.{length-rowAt, getD-rowAt, column}
 
--- ---- the first i elements of w stand in d, the rest of d is as it was
+-- ---- a loop that fills a slice from its front
 
-pub record Filling {A : Type 0} (w d₀ d : List A) (i : ℕ) : Type 0 where
-  pub far : i ≤ length w
-  pub room : length w ≤ length d₀
-  pub long : length d ≡ length d₀
-  pub is : d ≡ take i w ++ drop i d₀
+abbrev pub Filling : {A : Type 0} → (w d₀ d : List A) → ℕ → Type 0
+Filling = lists.Filling 0
 
 module _ {A : Type 0} {w d₀ : List A} where
-  pub filling-start : length w ≤ length d₀ → Filling w d₀ d₀ 0
-  filling-start h = record { far = omega arith; room = h; long = refl; is = refl }
+  filling-start : length w ≤ length d₀ → Filling w d₀ d₀ 0
+  filling-start h = lists.front w d₀ h
 
   module _ {d : List A} {i : ℕ} (f : Filling w d₀ d i) where
-    pub filling-turn : (z : A) {x : A} → i < length w → x ≡ getD w i z → Filling w d₀ (set d i x) (i + 1)
-    filling-turn z {x} h e = record {
-      far = omega arith;
-      room = f .room;
-      long = length-set d i x ∙ f .long;
-      is =
-          let r = f .room in
-          let k : 0 + i < length d₀ = omega arith in
-          let a : 0 + i ≡ i = omega arith in
-          let b : 0 + suc i ≡ suc i = omega arith in
-          rw (e, f .is, add-one i) (rw (a, b) at (paste-suc d₀ 0 w i z k h));
-    }
+    filling-turn : (z : A) {x : A} → i < length w → x ≡ getD w i z → Filling w d₀ (set d i x) (i + 1)
+    filling-turn z {x} h e = lists.front-turn w d₀ d i x z f h e
 
-    pub filling-end : length w ≤ i → d ≡ front w d₀
-    filling-end h = let e : i ≡ length w = let z = f .far in omega arith in f .is ∙ rw (take-all i w h, e)
+    filling-end : length w ≤ i → d ≡ front w d₀
+    filling-end h = let e : 0 + i ≡ length w = let z = f .far in omega arith in f .is ∙ rw (take-all i w h, e)
 
 -- ---- counts
 

@@ -75,13 +75,8 @@ unfoldable pub row : {A : Type 0} → (A → List ℕ) → List A → List ℕ
 row one [] = []
 row one (a ∷ l) = one a ++ row one l
 
--- ---- loops in a row of points
+-- ---- counts
 
 unfoldable pub sum : List ℕ → ℕ
 sum [] = 0
 sum (n ∷ ns) = n + sum ns
-
--- a row cut into pieces of the given lengths
-unfoldable pub pieces : {A : Type 0} → List ℕ → List A → List (List A)
-pieces [] l = []
-pieces (n ∷ ns) l = take n l ∷ pieces ns (drop n l)

@@ -2,9 +2,10 @@
 use Prim.Native.Nat.{ℕ, zero, suc, _+_, _*_}
 use mathlib.Core.List.{List}
 use lib.Ieee.{Float}
+use Rattle.lists.specs.Pieces.{pieces}
 use Rattle.numbers.specs.declared.math.Vec2.{Vec2}
 use Rattle.numbers.specs.declared.math.Vec3.{Vec3}
-use Rattle.records.specs.Bytes.{byteAt, u16At, realAt, uvAt, xyzAt, rowAt, pieces}
+use Rattle.records.specs.Bytes.{byteAt, u16At, realAt, uvAt, xyzAt, rowAt}
 
 -- "Byte 0 version (1), 1 kind (0 plane, 1 cylinder, 2 cone, 3 sphere, 4 torus), 2 loops L (0 to 16), 3 same sense (0 or 1), 4 minimum segments (1 to 64)."
 abbrev pub headerSize : ℕ

@@ -5,9 +5,10 @@ use mathlib.Core.List.{List, [], _∷_, _++_, map}
 use lib.ListN.{length}
 use lib.Dec.{T}
 use lib.Ieee.{Float, binary64, fits}
+use Rattle.lists.specs.Pieces.{pieces}
 use Rattle.numbers.specs.declared.math.Vec2.{Vec2}
 use Rattle.numbers.specs.declared.math.Vec3.{Vec3}
-use Rattle.records.specs.Bytes.{byteAt, u16At, realAt, uvAt, xyzAt, rowAt, u16, real, uv, xyz, row, sum, pieces}
+use Rattle.records.specs.Bytes.{byteAt, u16At, realAt, uvAt, xyzAt, rowAt, u16, real, uv, xyz, row, sum}
 
 -- A closed face: its path (0 closed, 1 wrapped, 2 whole surface); the corner count and the area of the outer loop and of each hole; "two parallel arrays over all corners".
 pub record Result : Type 0 where

@@ -1,15 +1,43 @@
--- 01, "Values to hold": the triangle on a plane, its result, and refusals of records that are like it. The prover computes each of them.
+-- The bounds; 01, "Values to hold": the triangle on a plane, its result, and refusals of records that are like it. The prover computes each of them.
 use mathlib.Core.Path.{_≡_, refl}
+use mathlib.Core.Bool.{false}
 use mathlib.Core.List.{List, [], _∷_, _++_}
 use Prim.Native.Nat.{ℕ}
 use lib.ListN.{length, set, take}
-use lib.Ieee.{Float, binary64, ofBits, toBits, odd, ofFields, le, lt, eq, neg}
+use lib.Ieee.{Float, binary64, round, ofBits, toBits, odd, ofFields, le, lt, eq, neg}
 use Rattle.records.specs.Bytes.{number, numberAt, realAt, uvAt, xyzAt, rowAt, bytes, real, uv, xyz, row, sum}
 use Rattle.records.specs.Face.{start}
-use Rattle.records.specs.Limits.{0·0, holds, headRange, radius, second, uvRange, uRange, vRange, range}
+use Rattle.records.specs.Limits.{10^9, 10^6, 10^3, 64·0, 1·5, 0·001, 10^-6, 0·0, holds, headRange, radius, second, uvRange, uRange, vRange, range}
 use Rattle.records.specs.Refusals.{Verdict, passes, refuses, conditions, verdict, firstFrom, tooFewLent, wrongByte, wrongHeader, tooManyLoops, endsInCounts, tooFewPoints, tooManyPoints, wrongLength, badReal, firstBadReal}
 use Rattle.records.specs.Result.{Result, encode, decode, countsIn, cornersIn}
 use Rattle.records.specs.Call.{refused, output}
+
+-- ---- the bounds of `Limits`: each is the double nearest to its number, here a quotient of whole numbers
+
+pub record Bounds : Type 0 where
+  pub is-10^9 : round binary64 false 1000000000 1 ≡ 10^9
+  pub is-10^6 : round binary64 false 1000000 1 ≡ 10^6
+  pub is-10^3 : round binary64 false 1000 1 ≡ 10^3
+  pub is-64·0 : round binary64 false 64 1 ≡ 64·0
+  pub is-1·5 : round binary64 false 3 2 ≡ 1·5
+  pub is-0·001 : round binary64 false 1 1000 ≡ 0·001
+  pub is-10^-6 : round binary64 false 1 1000000 ≡ 10^-6
+  pub is-0·0 : round binary64 false 0 1 ≡ 0·0
+
+pub bounds : Bounds
+unfolding round ofBits ofFields odd
+bounds = record {
+  is-10^9 = refl;
+  is-10^6 = refl;
+  is-10^3 = refl;
+  is-64·0 = refl;
+  is-1·5 = refl;
+  is-0·001 = refl;
+  is-10^-6 = refl;
+  is-0·0 = refl;
+}
+
+-- ---- the triangle
 
 abbrev 0·01 : Float
 0·01 = ofBits binary64 0x3f84_7ae1_47ae_147b

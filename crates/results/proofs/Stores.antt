@@ -7,15 +7,11 @@ use native.Mathlib.Omega.{arith}
 use lib.ListN.{length, getD, drop, set, length-set, length-append, drop-of-length-le}
 use lib.Seq.{sets, length-sets, drop-cons}
 use lib.Ieee.{Float, nan, binary64, toBits}
+use Rattle.lists.proofs.Stores.{sets-append}
 use Rattle.numbers.specs.declared.math.Vec2.{Vec2}
 use Rattle.numbers.specs.declared.math.Vec3.{Vec3}
 use Rattle.records.specs.Bytes.{bytes, u16, real, uv, xyz, row}
 use Rattle.records.proofs.RoundTrip.{Codes, codes-u16, codes-real, codes-uv, codes-xyz}
-
--- one run behind another
-pub sets-append : (l : List ℕ) (i j : ℕ) (vs ws : List ℕ) → j ≡ i + length vs → sets (sets l i vs) j ws ≡ sets l i (vs ++ ws)
-sets-append l i j [] ws e = let f : j ≡ i = omega arith in rw f
-sets-append l i j (v ∷ vs) ws e = sets-append (set l i v) (suc i) j vs ws (omega arith)
 
 -- ---- one number: i of its w bytes are stored, `rest` holds the others
 

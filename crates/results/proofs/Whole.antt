@@ -8,6 +8,7 @@ use lib.ListN.{length, take, drop, length-append}
 use lib.Seq.{sets, sets-eq, length-take-le}
 use lib.Ieee.{Float}
 use borrow.Author.Tests.{le-leb, lt-leb, leb-true}
+use Rattle.lists.proofs.Stores.{sets-append}
 use Rattle.records.specs.Bytes.{_≤?_, u16, real, uv, xyz, row, sum}
 use Rattle.records.specs.Result.{Result, encode, resultLength}
 use Rattle.records.specs.Lent.{front, filledIf, least5}
@@ -18,7 +19,6 @@ use Rattle.results.specs.declared.Size.the-variants.{Takes, TooLarge}
 use Rattle.results.specs.declared.Written.{Written}
 use Rattle.results.specs.declared.Written.the-variants.{Length, Refused}
 use Rattle.results.specs.Written.{pathOf, pairs, triples, lentResult, headerHolds, lengthOf, sizeOf, writtenIf, resultFits, Fitting, WrittenTo}
-use Rattle.results.proofs.Stores.{sets-append}
 use Rattle.results.proofs.Columns.{length-pairs, length-triples}
 
 -- ---- the parts
