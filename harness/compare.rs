@@ -16,6 +16,7 @@ mod patterns;
 mod random;
 mod records;
 mod reference;
+mod regions;
 mod report;
 mod shapes;
 mod surfaces;
@@ -33,6 +34,7 @@ const LAYERS: &[(&str, fn(&Run))] = &[
     ("numbers", numbers::compare),
     ("surfaces", surfaces::compare),
     ("loops", loops::compare),
+    ("regions", regions::compare),
     ("records", records::compare),
     ("generator", generator::meet_everything),
 ];

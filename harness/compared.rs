@@ -95,6 +95,10 @@ unsafe extern "C" {
         angle: f64,
         segments: usize,
     ) -> usize;
+    #[link_name = "compared_merge_even_steps"]
+    pub safe fn merge_even_steps(lo: f64, hi: f64, n: usize) -> usize;
+    fn compared_merge_even(lo: f64, hi: f64, n: usize, from: usize, out: *mut f64, out_len: usize);
+    fn compared_inner_into(lo: f64, hi: f64, n: usize, out: *mut f64, out_len: usize) -> usize;
     #[link_name = "compared_nearest_branch"]
     pub safe fn nearest_branch(value: f64, reference: f64, period: f64) -> f64;
     fn compared_net_wrap(u: *const f64, u_len: usize, period: f64) -> i32;
@@ -102,6 +106,41 @@ unsafe extern "C" {
     fn compared_mean_v(v: *const f64, v_len: usize) -> f64;
     fn compared_least(xs: *const f64, xs_len: usize) -> f64;
     fn compared_greatest(xs: *const f64, xs_len: usize) -> f64;
+    fn compared_closed_region(
+        u: *const f64,
+        u_len: usize,
+        v: *const f64,
+        v_len: usize,
+        starts: *const usize,
+        starts_len: usize,
+        counts: *const usize,
+        counts_len: usize,
+        areas: *const f64,
+        areas_len: usize,
+        ulo: *mut f64,
+        ulo_len: usize,
+        uhi: *mut f64,
+        uhi_len: usize,
+        vlo: *mut f64,
+        vlo_len: usize,
+        vhi: *mut f64,
+        vhi_len: usize,
+    ) -> usize;
+    fn compared_rephase_holes(
+        u: *mut f64,
+        u_len: usize,
+        v: *mut f64,
+        v_len: usize,
+        areas: *mut f64,
+        areas_len: usize,
+        starts: *const usize,
+        starts_len: usize,
+        counts: *const usize,
+        counts_len: usize,
+        outer: usize,
+        uperiod: f64,
+        vperiod: f64,
+    );
     fn compared_refusal(face: *const u8, face_len: usize) -> u8;
     fn compared_refusal_place(face: *const u8, face_len: usize) -> usize;
     fn compared_drop_repeats(
@@ -151,6 +190,16 @@ pub fn direction_steps(
 
 // A slice crosses as its pointer and its length, which hold for the time of the call.
 
+/// The rungs from that of number `from` on, as many as there is room for.
+pub fn merge_even(lo: f64, hi: f64, n: usize, from: usize, out: &mut [f64]) {
+    unsafe { compared_merge_even(lo, hi, n, from, out.as_mut_ptr(), out.len()) }
+}
+
+/// How many inner rungs there are; as many are written as there is room for.
+pub fn inner_into(lo: f64, hi: f64, n: usize, out: &mut [f64]) -> usize {
+    unsafe { compared_inner_into(lo, hi, n, out.as_mut_ptr(), out.len()) }
+}
+
 pub fn net_wrap(u: &[f64], period: f64) -> i32 {
     unsafe { compared_net_wrap(u.as_ptr(), u.len(), period) }
 }
@@ -197,4 +246,64 @@ pub fn drop_repeats(corners: &mut [Vec<f64>; 5], n: usize, ks: &mut [usize]) -> 
 pub fn refusal(face: &[u8]) -> (u8, usize) {
     let (data, length) = (face.as_ptr(), face.len());
     unsafe { (compared_refusal(data, length), compared_refusal_place(data, length)) }
+}
+
+/// The loops of a face as parallel arrays: loop k has counts[k] points from starts[k] on.
+#[derive(Clone, Default)]
+pub struct Table {
+    pub u: Vec<f64>,
+    pub v: Vec<f64>,
+    pub starts: Vec<usize>,
+    pub counts: Vec<usize>,
+    pub areas: Vec<f64>,
+}
+
+/// The number of the outer loop.
+pub fn closed_region(table: &Table) -> usize {
+    let Table { u, v, starts, counts, areas } = table;
+    let [mut ulo, mut uhi, mut vlo, mut vhi] = [(); 4].map(|_| vec![0.0; counts.len()]);
+    unsafe {
+        compared_closed_region(
+            u.as_ptr(),
+            u.len(),
+            v.as_ptr(),
+            v.len(),
+            starts.as_ptr(),
+            starts.len(),
+            counts.as_ptr(),
+            counts.len(),
+            areas.as_ptr(),
+            areas.len(),
+            ulo.as_mut_ptr(),
+            ulo.len(),
+            uhi.as_mut_ptr(),
+            uhi.len(),
+            vlo.as_mut_ptr(),
+            vlo.len(),
+            vhi.as_mut_ptr(),
+            vhi.len(),
+        )
+    }
+}
+
+/// Moves all loops but the outer one. The period of an open direction is 0.
+pub fn rephase_holes(table: &mut Table, outer: usize, [uperiod, vperiod]: [f64; 2]) {
+    let Table { u, v, starts, counts, areas } = table;
+    unsafe {
+        compared_rephase_holes(
+            u.as_mut_ptr(),
+            u.len(),
+            v.as_mut_ptr(),
+            v.len(),
+            areas.as_mut_ptr(),
+            areas.len(),
+            starts.as_ptr(),
+            starts.len(),
+            counts.as_ptr(),
+            counts.len(),
+            outer,
+            uperiod,
+            vperiod,
+        )
+    }
 }

@@ -21,13 +21,34 @@ pub struct Face {
     pub loops: Vec<Loop>,
 }
 
+impl Face {
+    /// All of it as reals, for the report.
+    pub fn reals(&self) -> Vec<f64> {
+        let mut out = self.shape.reals();
+        out.push(f64::from(u8::from(self.same_sense)));
+        for one in &self.loops {
+            out.push(one.uv.len() as f64);
+            for (p, q) in one.uv.iter().zip(&one.xyz) {
+                out.extend([p.u, p.v, q.x, q.y, q.z]);
+            }
+        }
+        out
+    }
+}
+
 /// A face whose loops are patches of the parameter plane, one often round all others.
 pub fn patch(random: &mut Random) -> Face {
     let kind = random.choose(&KINDS);
     let shape = shape(random, kind);
     let holes = if random.one_in(8) { random.below(16) } else { random.below(5) };
     let centre = Vec2::new(symmetric(random, 8.0), symmetric(random, 8.0));
-    let size = random.choose(&[1.0, 2.0, 3.0]);
+    // Now and then so small that the slack of the search is lost in the sum.
+    let small = random.one_in(8);
+    let size = if small {
+        random.choose(&[0.0, 1e-9, 1e-8, 1e-3])
+    } else {
+        random.choose(&[1.0, 2.0, 3.0])
+    };
     let mut loops = vec![patch_loop(random, centre, size)];
     for _ in 0..holes {
         let other = random.below(loops.len() as u64) as usize;

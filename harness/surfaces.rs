@@ -1,10 +1,10 @@
-//! The layer of surfaces against the Rust: points, domains and step counts, on random surfaces
-//! and on all limits of document 01, "The face record".
+//! The layer of surfaces against the Rust: points, domains, step counts and ladders, on random
+//! surfaces and on all limits of document 01, "The face record".
 
 use crate::compared::{self, Limits, Placement, Point};
-use crate::original::{Axis, Vec2, Vec3, direction_steps, v_steps};
+use crate::original::{Axis, Vec2, Vec3, direction_steps, merge_even, v_steps};
 use crate::report::{Check, Run};
-use crate::shapes::{KINDS, Kind, Shape, at_limits, parameter, shape};
+use crate::shapes::{KINDS, Kind, Shape, at_limits, parameter, shape, symmetric};
 
 const CASES: u64 = 400_000;
 
@@ -13,6 +13,7 @@ pub fn compare(run: &Run) {
     domains(run);
     wall_steps(run);
     whole_steps(run);
+    ladders(run);
 }
 
 /// Compares on shapes at their limits and on random ones; `one` is given whether it is an edge.
@@ -110,6 +111,46 @@ fn whole_steps(run: &Run) {
             check.see(edge, &given, &[rattle as f64], &[rust as f64]);
         }
     });
+}
+
+fn ladders(run: &Run) {
+    let mut check = run.check("merge_even");
+    for (lo, hi) in [(0.0, 1.0), (3.0, 3.0), (-0.0, 0.0), (0.0, -0.0), (-1e6, 1e6), (0.0, 1e-320)] {
+        for n in [0, 1, 2, 3, 64, 256, 134_300] {
+            ladder(&mut check, true, lo, hi, n);
+        }
+    }
+    for i in 0..run.times * CASES {
+        let random = &mut check.random;
+        let a = if random.one_in(2) { parameter(random, 64.0) } else { symmetric(random, 1e6) };
+        let b = match random.below(8) {
+            0 => a,
+            1 => random.near(a, 4),
+            2 => random.near(a, 1 << 24),
+            3 => symmetric(random, 1e6),
+            _ => parameter(random, 64.0),
+        };
+        let n = match i % 4096 {
+            0 => random.below(134_301),
+            1..2048 => random.below(8),
+            _ => random.below(300),
+        };
+        let (lo, hi) = if a <= b { (a, b) } else { (b, a) };
+        ladder(&mut check, false, lo, hi, n as usize);
+    }
+    check.done();
+}
+
+/// The whole ladder, and its inner rungs.
+fn ladder(check: &mut Check, edge: bool, lo: f64, hi: f64, n: usize) {
+    let rust = merge_even(&[], lo, hi, n);
+    let mut all = vec![0.0; compared::merge_even_steps(lo, hi, n) + 1];
+    compared::merge_even(lo, hi, n, 0, &mut all);
+    check.see(edge, &[lo, hi, n as f64], &all, &rust);
+    let inner = &rust[1..rust.len().saturating_sub(1).max(1)];
+    let mut room = vec![0.0; rust.len()];
+    let count = compared::inner_into(lo, hi, n, &mut room);
+    check.see(edge, &[lo, hi, n as f64], &room[..count], inner);
 }
 
 fn numbered(shape: &Shape) -> compared::Surface {

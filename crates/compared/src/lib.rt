@@ -3,5 +3,6 @@
 pub mod of_loops;
 pub mod of_numbers;
 pub mod of_records;
+pub mod of_regions;
 pub mod of_repeats;
 pub mod of_surfaces;
