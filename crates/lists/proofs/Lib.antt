@@ -9,3 +9,5 @@ pub mod Placed
 pub mod Places
 pub mod Stores
 pub mod Pieces
+pub mod Storing
+pub mod Reverse

@@ -5,4 +5,5 @@ pub mod branch;
 pub mod mean;
 pub mod part;
 pub mod span;
+pub mod stretch;
 pub mod wrap;
