@@ -1,0 +1,4 @@
+pub mod Sides
+pub mod Positions
+pub mod Lent
+pub mod Meaning
