@@ -8,18 +8,20 @@ use Rattle.loops.specs.Mean.{meanOf}
 use Rattle.bands.specs.Corners.{Corner, Corners, vs, moveV}
 use Rattle.bands.specs.Given.{Loop, Given}
 use Rattle.bands.specs.Rings.{Face, laid, reseam, started}
-use Rattle.bands.specs.Strip.{Period, endless, every, Setting, strip}
+use Rattle.surfaces.specs.declared.surface.Period.{Period}
+use Rattle.surfaces.specs.declared.surface.Period.the-variants.{Every, None}
+use Rattle.bands.specs.Strip.{Setting, strip}
 
 -- "Rings are ordered by mean v, equals as they stand; the torus swaps": whether the first ring is the lower one. `with₁` and `with₂` say whether the first
 -- and the later ring go with the face. Where v comes round, the one that does is lower if the other does not.
 unfoldable pub firstIsLower : Period → Bool → Bool → Float → Float → Bool
-firstIsLower endless with₁ with₂ mean₁ mean₂ = not (lt mean₂ mean₁)
-firstIsLower (every p) with₁ with₂ mean₁ mean₂ = cond (lt mean₂ mean₁) (not with₂ && with₁) (with₁ || not with₂)
+firstIsLower None with₁ with₂ mean₁ mean₂ = not (lt mean₂ mean₁)
+firstIsLower (Every p) with₁ with₂ mean₁ mean₂ = cond (lt mean₂ mean₁) (not with₂ && with₁) (with₁ || not with₂)
 
 -- "or lifts by travel": the upper ring's v, one period up where the band crosses v's seam
 unfoldable pub lift : Period → Bool → Bool → Float → Float → Float → Float
-lift endless withL withU meanL meanU v = v
-lift (every p) withL withU meanL meanU v = cond (withL && (not withU && lt meanU meanL)) (v ⊕ p) v
+lift None withL withU meanL meanU v = v
+lift (Every p) withL withU meanL meanU v = cond (withL && (not withU && lt meanU meanL)) (v ⊕ p) v
 
 module _ {A : Type 0} where
   abbrev pub pick : Bool → Face A → Corners A

@@ -1,17 +1,13 @@
 -- The strip between two rings. The sentences are those of 01, "Bands".
-use Prim.Native.Nat.{ℕ, _+_, _*_}
+use Prim.Native.Nat.{ℕ}
 use mathlib.Core.Bool.{Bool, cond}
-use mathlib.Core.List.{List, [], _∷_, _++_, map, reverse, dropLast}
+use mathlib.Core.List.{List, [], _∷_, _++_, map, reverse}
 use lib.Ieee.{Float, le}
-use lib.ListN.{length, drop}
 use Rattle.numbers.specs.Order.{minOf, maxOf}
 use Rattle.numbers.specs.Rounded.{_⊕_}
+use Rattle.surfaces.specs.declared.surface.Period.{Period}
+use Rattle.surfaces.specs.Rungs.{inner}
 use Rattle.bands.specs.Corners.{Corner, Corners}
-
--- whether a parameter comes round, and after how much
-pub data Period : Type 0 where
-  endless : Period
-  every : Float → Period
 
 -- What a band takes from its surface and its face: how u and v come round, whether the face's sense is the surface's, when two positions are one, the
 -- point at u and v, the ladder of n steps from one v up to another, and how many steps lie between two v.
@@ -23,10 +19,6 @@ pub record Setting (A : Type 0) : Type 0 where
   pub pointAt : Float → Float → A
   pub rungs : Float → Float → ℕ → List Float
   pub steps : Float → Float → ℕ
-
--- all but the first and the last
-abbrev pub inner : List Float → List Float
-inner rungs = dropLast (drop 1 rungs)
 
 module _ {A : Type 0} (S : Setting A) where
   -- "the inner rungs of one `merge_even`, with the steps of `v_steps`, from the lesser to the greater of the two rings' first v"

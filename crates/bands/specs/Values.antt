@@ -19,7 +19,9 @@ use Rattle.rings.specs.Turns.{unlessZero, beginRingAt, turnedOnto, alignAt}
 use Rattle.rings.specs.Starts.{alignedU, slidU, firstFor, laterFor, serves, firstServing, start}
 use Rattle.bands.specs.Given.{Measured, Loop, Given, only, givenOf}
 use Rattle.bands.specs.Rings.{Face, rising, shifted, laid, onto, onStrip, anyStraddles, acrossSeam, hasStrip, reseam, alignCuts, slideToCut, trial, started}
-use Rattle.bands.specs.Strip.{Setting, Period, endless, every, ladder, heights, strip}
+use Rattle.surfaces.specs.declared.surface.Period.the-variants.{Every, None}
+use Rattle.surfaces.specs.Rungs.{inner}
+use Rattle.bands.specs.Strip.{Setting, ladder, heights, strip}
 use Rattle.bands.specs.Band.{firstIsLower, lift, joined, lowerFirst, lowerRing, upperRing, stripOf, outer}
 
 -- 0 to 5 as reals
@@ -84,7 +86,7 @@ last-first = refl
 plain : Setting ℕ
 plain = record {
   period = r4;
-  vPeriod = endless;
+  vPeriod = None;
   sense = true;
   same = eqb;
   pointAt = λ u v. pointOf (lt v r5);
@@ -101,7 +103,7 @@ tube-strip : stripOf plain tube
     ≡ corner r0 r0 10 ∷ corner r1 r0 11 ∷ corner r2 r0 12 ∷ corner r4 r0 10 ∷ corner r4 r0 10
     ∷ corner r4 r4 40 ∷ corner r4 r5 50 ∷ corner r4 r1 20 ∷ corner r4 r1 20
     ∷ corner r2 r1 22 ∷ corner r1 r1 21 ∷ corner r0 r1 20 ∷ corner r0 r5 50 ∷ corner r0 r4 40 ∷ []
-unfolding stripOf strip heights ladder lowerRing upperRing lowerFirst firstIsLower lift joined laid rising shifted leastU greatestU reseam hasStrip acrossSeam onStrip anyStraddles started start firstServing firstFrom serves serve firstFor laterFor alignedU slidU beginsBackward standsAtTheCut trial beginRingAt alignCuts alignAt turnedOnto nearest firstLeast slideToCut unlessZero turned begun closed leastOf greatestOf meanOf sumOf absOf roundAway plain tube givenOf only lowLoop highLoop bore onto stripShift straddles floorOf add sub mul div neg lt le eq ne ofBits ofInt
+unfolding stripOf strip heights ladder lowerRing upperRing lowerFirst firstIsLower lift joined laid rising shifted leastU greatestU reseam hasStrip acrossSeam onStrip anyStraddles started start firstServing firstFrom serves serve firstFor laterFor alignedU slidU beginsBackward standsAtTheCut trial beginRingAt alignCuts alignAt turnedOnto nearest firstLeast slideToCut unlessZero turned begun closed leastOf greatestOf meanOf sumOf absOf roundAway plain tube givenOf only lowLoop highLoop bore onto stripShift straddles floorOf add sub mul div neg lt le eq ne ofBits ofInt inner
 tube-strip = refl
 
 -- the repeats are gone
@@ -135,16 +137,16 @@ offset-trial = refl
 
 -- ---- which ring is lower: of equal means the first, and on a torus the one that goes with the face, to which the other is lifted
 
-tie-of-means : firstIsLower endless true false r1 r1 ≡ true
+tie-of-means : firstIsLower None true false r1 r1 ≡ true
 unfolding firstIsLower lt
 tie-of-means = refl
 
-swapped : firstIsLower (every r4) false true r1 r2 ≡ false
+swapped : firstIsLower (Every r4) false true r1 r2 ≡ false
 unfolding firstIsLower lt
 swapped = refl
 
 ring-torus : Setting ℕ
-ring-torus = record { period = r4; vPeriod = every r4; sense = true; same = eqb; pointAt = λ u v. 0; rungs = λ lo hi n. lo ∷ hi ∷ []; steps = λ lo hi. 1 }
+ring-torus = record { period = r4; vPeriod = Every r4; sense = true; same = eqb; pointAt = λ u v. 0; rungs = λ lo hi n. lo ∷ hi ∷ []; steps = λ lo hi. 1 }
 
 high-rising : Given ℕ
 high-rising = record {
@@ -154,9 +156,9 @@ high-rising = record {
 }
 
 torus-lower : vs (lowerRing ring-torus high-rising) ≡ r2 ∷ r2 ∷ r2 ∷ []
-unfolding stripOf strip heights ladder lowerRing upperRing lowerFirst firstIsLower lift joined laid rising shifted leastU greatestU reseam hasStrip acrossSeam onStrip anyStraddles started start firstServing firstFrom serves serve firstFor laterFor alignedU slidU beginsBackward standsAtTheCut trial beginRingAt alignCuts alignAt turnedOnto nearest firstLeast slideToCut unlessZero turned begun closed leastOf greatestOf meanOf sumOf absOf roundAway ring-torus high-rising onto stripShift straddles floorOf add sub mul div neg lt le eq ne ofBits ofInt
+unfolding stripOf strip heights ladder lowerRing upperRing lowerFirst firstIsLower lift joined laid rising shifted leastU greatestU reseam hasStrip acrossSeam onStrip anyStraddles started start firstServing firstFrom serves serve firstFor laterFor alignedU slidU beginsBackward standsAtTheCut trial beginRingAt alignCuts alignAt turnedOnto nearest firstLeast slideToCut unlessZero turned begun closed leastOf greatestOf meanOf sumOf absOf roundAway ring-torus high-rising onto stripShift straddles floorOf add sub mul div neg lt le eq ne ofBits ofInt inner
 torus-lower = refl
 
 torus-upper : vs (upperRing ring-torus high-rising) ≡ r5 ∷ r5 ∷ r5 ∷ []
-unfolding stripOf strip heights ladder lowerRing upperRing lowerFirst firstIsLower lift joined laid rising shifted leastU greatestU reseam hasStrip acrossSeam onStrip anyStraddles started start firstServing firstFrom serves serve firstFor laterFor alignedU slidU beginsBackward standsAtTheCut trial beginRingAt alignCuts alignAt turnedOnto nearest firstLeast slideToCut unlessZero turned begun closed leastOf greatestOf meanOf sumOf absOf roundAway ring-torus high-rising onto stripShift straddles floorOf add sub mul div neg lt le eq ne ofBits ofInt
+unfolding stripOf strip heights ladder lowerRing upperRing lowerFirst firstIsLower lift joined laid rising shifted leastU greatestU reseam hasStrip acrossSeam onStrip anyStraddles started start firstServing firstFrom serves serve firstFor laterFor alignedU slidU beginsBackward standsAtTheCut trial beginRingAt alignCuts alignAt turnedOnto nearest firstLeast slideToCut unlessZero turned begun closed leastOf greatestOf meanOf sumOf absOf roundAway ring-torus high-rising onto stripShift straddles floorOf add sub mul div neg lt le eq ne ofBits ofInt inner
 torus-upper = refl

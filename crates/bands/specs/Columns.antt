@@ -1,0 +1,45 @@
+-- Corners in parallel lists, one for each parameter and each coordinate, and what a band takes from a surface.
+use mathlib.Core.Path.{_≡_}
+use mathlib.Core.Bool.{Bool}
+use mathlib.Core.List.{List, map}
+use lib.Ieee.{Float}
+use Rattle.numbers.specs.Position.{same}
+use Rattle.numbers.specs.declared.math.Vec3.{Vec3}
+use Rattle.numbers.specs.declared.math.Frame.{Frame}
+use Rattle.surfaces.specs.declared.options.Resolved.{Resolved}
+use Rattle.surfaces.specs.declared.surface.Surface.{Surface}
+use Rattle.surfaces.specs.Domains.{vPeriod}
+use Rattle.surfaces.specs.Points.{pointOf}
+use Rattle.surfaces.specs.Rungs.{rungs}
+use Rattle.surfaces.specs.Steps.{vStepsOf}
+use Rattle.bands.specs.Corners.{Corner, Corners, us, vs}
+use Rattle.bands.specs.Strip.{Setting}
+
+abbrev pub xs : Corners Vec3 → List Float
+xs r = map (λ (c : Corner Vec3). c .at .x) r
+
+abbrev pub ys : Corners Vec3 → List Float
+ys r = map (λ (c : Corner Vec3). c .at .y) r
+
+abbrev pub zs : Corners Vec3 → List Float
+zs r = map (λ (c : Corner Vec3). c .at .z) r
+
+-- five lists hold the corners r
+pub record Columns (r : Corners Vec3) (u v x y z : List Float) : Type 0 where
+  pub u-is : u ≡ us r
+  pub v-is : v ≡ vs r
+  pub x-is : x ≡ xs r
+  pub y-is : y ≡ ys r
+  pub z-is : z ≡ zs r
+
+-- a band on a surface: period is that of u
+abbrev pub settingOf : Frame → Surface → Resolved → Float → Bool → Setting Vec3
+settingOf frame surface options period sense = record {
+  period = period;
+  vPeriod = vPeriod surface;
+  sense = sense;
+  same = same;
+  pointAt = pointOf frame surface;
+  rungs = rungs;
+  steps = λ lo hi. vStepsOf surface lo hi options;
+}
