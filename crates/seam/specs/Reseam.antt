@@ -13,6 +13,8 @@ use Rattle.rings.specs.Choices.{leastU, greatestU, firstPast}
 use Rattle.seam.specs.Gap.{spanOf, widestGap, usable}
 use Rattle.seam.specs.Holes.{ontoU, anyStraddles}
 use Rattle.seam.specs.declared.gap.Gap.{Gap}
+use Rattle.seam.specs.declared.reseam.Cut.{Cut}
+use Rattle.seam.specs.declared.reseam.Cut.the-variants.{Keep, At}
 use Rattle.seam.specs.declared.reseam.Reseamed.{Reseamed}
 use Rattle.seam.specs.declared.reseam.Reseamed.the-variants.{Kept, Recut, NoRoom}
 
@@ -24,9 +26,21 @@ pub record Us : Type 0 where
 abbrev pub us : List Float → List Float → List Float → Us
 us first later holes = record { first = first; later = later; holes = holes }
 
+abbrev pub seamU : Us → Float
+seamU s = leastU (s .first) (s .later)
+
 -- whether the rings make a strip at all, from lo, their least u, on
 unfoldable pub hasStrip : Float → List Float → List Float → Bool
 hasStrip lo first later = finite lo && lt lo (greatestU first later)
+
+-- whether the holes' ends fit in m and in n places
+unfoldable pub hasRoom : List ℕ → ℕ → ℕ → Bool
+hasRoom counts m n = leb (length counts) m && leb (length counts) n
+
+-- whether the rings are cut anew, and the points where they then begin
+unfoldable pub startsAt : Cut → Us → Reseamed
+startsAt Keep s = Kept
+startsAt (At cut) s = Recut (firstPast cut (s .first)) (firstPast cut (s .later))
 
 module _ (period : Float) where
   -- a ring begun at its first point at or past the cut, its repeated last point among the others (02, N4 mends this)
@@ -34,45 +48,40 @@ module _ (period : Float) where
   recutU cut us = begun (λ u. u ⊕ period) (firstPast cut us) us
 
   module _ (counts : List ℕ) where
-    abbrev pub seamU : Us → Float
-    seamU s = leastU (s .first) (s .later)
-
     unfoldable pub ontoAll : Float → List Float → List Float
     ontoAll lo holes = mapPieces (ontoU period lo) counts holes
 
     unfoldable pub onStripU : Us → Us
     onStripU s = record { first = s .first; later = s .later; holes = ontoAll (seamU s) (s .holes) }
 
-    -- "A hole lies across the seam"
-    unfoldable pub acrossSeamU : Us → Bool
-    acrossSeamU s = anyStraddles period (seamU s) (pieces counts (ontoAll (seamU s) (s .holes)))
+    -- "A hole lies across the seam", for holes on the strip that begins at lo
+    unfoldable pub acrossSeamU : Float → List Float → Bool
+    acrossSeamU lo holes = anyStraddles period lo (pieces counts holes)
 
-    unfoldable pub gapOfU : Us → Gap
-    gapOfU s = widestGap (seamU s) (seamU s ⊕ period) (map spanOf (pieces counts (ontoAll (seamU s) (s .holes))))
+    unfoldable pub gapOfU : Float → List Float → Gap
+    gapOfU lo holes = widestGap lo (lo ⊕ period) (map spanOf (pieces counts holes))
 
-    unfoldable pub hasGapU : Us → Bool
-    hasGapU s = usable (seamU s) (seamU s ⊕ period) (gapOfU s)
+    -- the strip is cut anew only where a hole lies across the seam and there is a gap
+    unfoldable pub cutU : Float → List Float → Cut
+    cutU lo holes =
+        let gap = gapOfU lo holes in
+        let middle = cond (usable lo (lo ⊕ period) gap) (At (gap .cut)) Keep in
+        cond (acrossSeamU lo holes) middle Keep
 
-    unfoldable pub cutAnewU : Float → Us → Us
-    cutAnewU cut s = record { first = recutU cut (s .first); later = recutU cut (s .later); holes = ontoAll cut (s .holes) }
+    -- both rings begun anew at the cut, and the holes moved again
+    unfoldable pub cutAtU : Cut → Us → Us
+    cutAtU Keep s = s
+    cutAtU (At cut) s = record { first = recutU cut (s .first); later = recutU cut (s .later); holes = ontoAll cut (s .holes) }
 
-    -- the rings are cut anew only where a hole lies across the seam and there is a gap
     unfoldable pub reseamU : Us → Us
-    reseamU s = cond (hasStrip (seamU s) (s .first) (s .later)) (cond (acrossSeamU s) (cond (hasGapU s) (cutAnewU (gapOfU s .cut) (onStripU s)) (onStripU s)) (onStripU s)) s
+    reseamU s = cond (hasStrip (seamU s) (s .first) (s .later)) (cutAtU (cutU (seamU s) (onStripU s .holes)) (onStripU s)) s
 
-    -- whether they are, and the points where they then begin
     unfoldable pub startsU : Us → Reseamed
-    startsU s =
-        let cut = gapOfU s .cut in
-        let starts = Recut (firstPast cut (s .first)) (firstPast cut (s .later)) in
-        cond (hasStrip (seamU s) (s .first) (s .later)) (cond (acrossSeamU s) (cond (hasGapU s) starts Kept) Kept) Kept
+    startsU s = cond (hasStrip (seamU s) (s .first) (s .later)) (startsAt (cutU (seamU s) (onStripU s .holes)) (onStripU s)) Kept
 
     -- with m and n places for the holes' ends: where they are too few, nothing is done
-    unfoldable pub hasRoom : ℕ → ℕ → Bool
-    hasRoom m n = leb (length counts) m && leb (length counts) n
-
     unfoldable pub reseamed : ℕ → ℕ → Us → Us
-    reseamed m n s = cond (hasRoom m n) (reseamU s) s
+    reseamed m n s = cond (hasRoom counts m n) (reseamU s) s
 
     unfoldable pub answer : ℕ → ℕ → Us → Reseamed
-    answer m n s = cond (hasRoom m n) (startsU s) NoRoom
+    answer m n s = cond (hasRoom counts m n) (startsU s) NoRoom

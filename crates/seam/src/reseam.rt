@@ -7,15 +7,18 @@ ghost use lib.ListN.{length};
 ghost use Rattle.lists.specs.Pieces.{pieces};
 ghost use Rattle.rings.specs.Choices.{firstPast};
 ghost use Rattle.seam.specs.Gap.{spanOf, widestGap};
-ghost use Rattle.seam.specs.Reseam.{hasStrip, recutU, ontoAll};
+ghost use Rattle.seam.specs.Reseam.{us, hasStrip, recutU, ontoAll, cutU, startsAt, cutAtU, startsU, reseamU, answer, reseamed};
 ghost use Rattle.seam.specs.declared.reseam.Reseamed.the-variants.{Recut};
 use crate::gap::Gap;
 use crate::gap::sort_spans;
+use crate::gap::usable;
 use crate::gap::widest_gap;
+use crate::holes::any_straddles;
 use crate::holes::ends_into;
 use crate::holes::onto_all;
 use rings::choices::first_past;
 use rings::choices::greatest_u;
+use rings::choices::least_u;
 use rings::moves::Move;
 use rings::moves::begin;
 
@@ -25,6 +28,12 @@ pub enum Reseamed {
     Kept,
     Recut { first: usize, later: usize },
     NoRoom,
+}
+
+// Where the strip is to be cut anew, if anywhere.
+pub enum Cut {
+    Keep,
+    At(f64),
 }
 
 fn is_finite(x: f64) -> bool
@@ -45,7 +54,7 @@ fn has_strip(lo: f64, first: &[f64], later: &[f64]) -> bool
     false
 }
 
-// The widest gap between the holes, with one place for each hole's ends.
+// The widest gap between the holes, with no more places than there are holes.
 fn gap_between(
     low: &mut [f64],
     high: &mut [f64],
@@ -106,4 +115,93 @@ fn cut_anew(
     let k = recut(later, cut, period);
     onto_all(holes, counts, cut, period);
     Reseamed::Recut { first: j, later: k }
+}
+
+// For holes that were brought onto the strip from lo, and with a place for the ends of each.
+fn cut_of(
+    low: &mut [f64],
+    high: &mut [f64],
+    holes: &[f64],
+    counts: &[usize],
+    lo: f64,
+    period: f64,
+) -> Cut
+    requires { ⌜ (length (now counts) ≤ length (now low)) × (length (now counts) ≤ length (now high)) ⌝ }
+    ensures { λ r. ⌜ r ≡ cutU period (now (counts .entry)) lo (now (holes .entry)) ⌝ }
+{
+    if !any_straddles(holes, counts, lo, period) {
+        return Cut::Keep;
+    }
+    let hi = lo + period;
+    let gap = gap_of(low, high, holes, counts, lo, hi);
+    if usable(gap, lo, hi) {
+        return Cut::At(gap.cut);
+    }
+    Cut::Keep
+}
+
+fn cut_at(
+    first: &mut [f64],
+    later: &mut [f64],
+    holes: &mut [f64],
+    counts: &[usize],
+    place: Cut,
+    period: f64,
+) -> Reseamed
+    ensures { λ r. ⌜ r ≡ startsAt place (us (now (first .entry)) (now (later .entry)) (now (holes .entry))) ⌝ }
+    ensures { λ _. ⌜ us (now (first .exit)) (now (later .exit)) (now (holes .exit)) ≡ cutAtU period (now (counts .entry)) place (us (now (first .entry)) (now (later .entry)) (now (holes .entry))) ⌝ }
+{
+    match place {
+        Cut::Keep => Reseamed::Kept,
+        Cut::At(cut) => cut_anew(first, later, holes, counts, cut, period),
+    }
+}
+
+// With a place for the ends of each hole.
+fn reseam_with_room(
+    first: &mut [f64],
+    later: &mut [f64],
+    holes: &mut [f64],
+    counts: &[usize],
+    low: &mut [f64],
+    high: &mut [f64],
+    period: f64,
+) -> Reseamed
+    requires { ⌜ (length (now counts) ≤ length (now low)) × (length (now counts) ≤ length (now high)) ⌝ }
+    ensures { λ r. ⌜ r ≡ startsU period (now (counts .entry)) (us (now (first .entry)) (now (later .entry)) (now (holes .entry))) ⌝ }
+    ensures { λ _. ⌜ us (now (first .exit)) (now (later .exit)) (now (holes .exit)) ≡ reseamU period (now (counts .entry)) (us (now (first .entry)) (now (later .entry)) (now (holes .entry))) ⌝ }
+{
+    let lo = least_u(first, later);
+    if !has_strip(lo, first, later) {
+        return Reseamed::Kept;
+    }
+    onto_all(holes, counts, lo, period);
+    let place = cut_of(low, high, holes, counts, lo, period);
+    cut_at(first, later, holes, counts, place, period)
+}
+
+// Every hole brought onto the strip, and the rings cut anew where a hole lies across the seam. low and
+// high are lent for the holes' ends: where they are shorter than the counts nothing is done.
+pub fn reseam_u(
+    first: &mut [f64],
+    later: &mut [f64],
+    holes: &mut [f64],
+    counts: &[usize],
+    low: &mut [f64],
+    high: &mut [f64],
+    period: f64,
+) -> Reseamed
+    ensures { λ r. ⌜ r ≡ answer period (now (counts .entry)) (length (now (low .entry))) (length (now (high .entry))) (us (now (first .entry)) (now (later .entry)) (now (holes .entry))) ⌝ }
+    ensures { λ _. ⌜ now (first .exit) ≡ reseamed period (now (counts .entry)) (length (now (low .entry))) (length (now (high .entry))) (us (now (first .entry)) (now (later .entry)) (now (holes .entry))) .first ⌝ }
+    ensures { λ _. ⌜ now (later .exit) ≡ reseamed period (now (counts .entry)) (length (now (low .entry))) (length (now (high .entry))) (us (now (first .entry)) (now (later .entry)) (now (holes .entry))) .later ⌝ }
+    ensures { λ _. ⌜ now (holes .exit) ≡ reseamed period (now (counts .entry)) (length (now (low .entry))) (length (now (high .entry))) (us (now (first .entry)) (now (later .entry)) (now (holes .entry))) .holes ⌝ }
+{
+    let n = counts.len();
+    if low.len() < n {
+        return Reseamed::NoRoom;
+    }
+    if high.len() < n {
+        return Reseamed::NoRoom;
+    }
+    reseam_with_room(first, later, holes, counts, low, high, period)
 }
