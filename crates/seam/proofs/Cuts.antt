@@ -137,8 +137,10 @@ module _ (period : Float) (ns : List ℕ) (s : Us) (place : Cut) where
       → (r ≡ Recut (firstPast cut (s .first)) (firstPast cut (s .later))) × ((first′ ≡ recutU period cut (s .first)) × ((later′ ≡ recutU period cut (s .later)) × (holes′ ≡ ontoAll period ns cut (s .holes))))
       → (r ≡ startsAt place s) × (us first′ later′ holes′ ≡ cutAtU period ns place s)
   unfolding startsAt cutAtU
-  anew-at cut first′ later′ holes′ r e (a, (b, (c, d))) =
-      (a ∙ sym (ap (λ (p : Cut). startsAt p s) e), (λ j. us (b j) (c j) (d j)) ∙ sym (ap (λ (p : Cut). cutAtU period ns p s) e))
+  anew-at cut first′ later′ holes′ r e (a, (b, (c, d))) = (a ∙ sym (ap (λ (p : Cut). startsAt p s) e), all ∙ sym (ap (λ (p : Cut). cutAtU period ns p s) e))
+    where
+      all : us first′ later′ holes′ ≡ cutAtU period ns (At cut) s
+      all = λ j. us (b j) (c j) (d j)
 
 -- ---- the whole
 

@@ -8,7 +8,7 @@ max-requires : tie.Need-max-requires
 max-requires c κs = search needs
 
 returns : tie.Need-returns
-returns c = sym (passed-wider _ _ _ _ (c .before .before .before .before .max .ensures) (c .before .if1 .taken))
+returns c = let a = c .before .before .before .before .before .args in sym (passed-wider (a .g) (a .low) (a .high) _ (c .before .before .before .before .max .ensures) (c .before .if1 .taken))
 
 returns-2 : tie.Need-returns-2
 returns-2 c = sym (passed-not-wider _ _ _ _ (c .before .before .before .max .ensures) (c .if1 .left))
