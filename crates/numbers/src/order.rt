@@ -1,5 +1,6 @@
-// The size of a real, and the lesser and the greater of two.
+// The size of a real, whether it is finite, and the lesser and the greater of two.
 ghost use mathlib.Core.Path.{_≡_};
+ghost use lib.Ieee.Scale.{finite};
 ghost use Rattle.numbers.specs.Order.{absOf, minOf, maxOf};
 
 pub fn abs(a: f64) -> f64
@@ -12,6 +13,15 @@ pub fn abs(a: f64) -> f64
     } else {
         a
     }
+}
+
+pub fn is_finite(x: f64) -> bool
+    ensures { λ r. ⌜ r ≡ finite x ⌝ }
+{
+    if x > -1.0 / 0.0 {
+        return x < 1.0 / 0.0;
+    }
+    false
 }
 
 pub fn min(a: f64, b: f64) -> f64

@@ -4,7 +4,7 @@ use mathlib.Core.Path.{_≡_, refl, sym, ap, _∙_}
 use mathlib.Core.Bool.{Bool, true, false, cond, not, _&&_}
 use mathlib.Core.List.{List, [], _∷_, map}
 use borrow.Author.Tests.{eq-eqb, lt-leb, le-leb, not-true, not-false}
-use lib.Ieee.{Float, nan, inf, fin, lt}
+use lib.Ieee.{Float, lt}
 use lib.Ieee.Scale.{finite}
 use lib.ListN.{length, length-map}
 use Rattle.lists.specs.Pieces.{pieces, mapPieces}
@@ -26,20 +26,7 @@ use Rattle.seam.specs.declared.reseam.Reseamed.the-variants.{Kept, Recut
 use Rattle.seam.specs.Reseam.{Us, us, hasStrip, recutU, ontoAll, onStripU, acrossSeamU, gapOfU, cutU, startsAt, cutAtU, startsU, reseamU, hasRoom, answer, reseamed}
 use Rattle.seam.proofs.Spans.{spans-back}
 
--- ---- finite: between the infinities
-
-pub above-least : (x : Float) → lt (inf true) x ≡ true → lt x (inf false) ≡ finite x
-unfolding lt
-above-least nan t = refl
-above-least (inf true) t = sym t
-above-least (inf false) t = refl
-above-least (fin s m e) t = refl
-
-pub not-above : (x : Float) → lt (inf true) x ≡ false → false ≡ finite x
-unfolding lt
-not-above nan t = refl
-not-above (inf s) t = refl
-not-above (fin s m e) t = sym t
+-- ---- whether there is a strip
 
 module _ (lo : Float) (first later : List Float) (t : Bool) (t-is : t ≡ finite lo) where
   pub strip-is : t ≡ true → (high : Float) → high ≡ greatestU first later → lt lo high ≡ hasStrip lo first later

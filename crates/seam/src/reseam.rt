@@ -2,7 +2,6 @@
 ghost use mathlib.Core.Path.{_≡_};
 ghost use mathlib.Core.List.{List, map};
 ghost use Prim.Native.Nat.{_≤_};
-ghost use lib.Ieee.Scale.{finite};
 ghost use lib.ListN.{length};
 ghost use Rattle.lists.specs.Pieces.{pieces};
 ghost use Rattle.rings.specs.Choices.{firstPast};
@@ -16,6 +15,7 @@ use crate::gap::widest_gap;
 use crate::holes::any_straddles;
 use crate::holes::ends_into;
 use crate::holes::onto_all;
+use numbers::order::is_finite;
 use rings::choices::first_past;
 use rings::choices::greatest_u;
 use rings::choices::least_u;
@@ -34,15 +34,6 @@ pub enum Reseamed {
 pub enum Cut {
     Keep,
     At(f64),
-}
-
-fn is_finite(x: f64) -> bool
-    ensures { λ r. ⌜ r ≡ finite x ⌝ }
-{
-    if x > -1.0 / 0.0 {
-        return x < 1.0 / 0.0;
-    }
-    false
 }
 
 fn has_strip(lo: f64, first: &[f64], later: &[f64]) -> bool

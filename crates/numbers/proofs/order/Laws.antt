@@ -1,4 +1,4 @@
--- The size of a real, by the tests against zero.
+-- The size of a real, by the tests against zero, and that it is finite, by those against the infinities.
 use mathlib.Core.Path.{_≡_, refl, sym, ap, _∙_}
 use Prim.Native.Nat.{zero, suc, _+_, _*_, _≤_, _<_}
 use native.Mathlib.Omega.{arith}
@@ -6,6 +6,7 @@ use mathlib.Core.Bool.{Bool, true, false, _&&_, _||_, Bool·beq, true≢false, f
 use lib.IntN.{ℤ}
 use lib.Dec.{T, eqb, eqb→eq}
 use lib.Ieee.{Float, nan, inf, fin, binary64, up, down, neg, lt, eq, fits, ofBits}
+use lib.Ieee.Scale.{finite}
 use borrow.Author.Tests.{ltb-true, ltb-false, eqb-true, eq-eqb}
 use Rattle.numbers.specs.Constants.{plusZero}
 use Rattle.numbers.specs.Order.{absOf}
@@ -48,3 +49,16 @@ abs-above (fin true m e) h k =
   where
     known : m * up e * 1 ≡ 0 * down e → eqb (m * up e * 1) (0 * down e) && (Bool·beq true false || eqb (m * up e * 1) 0) ≡ true
     known y = let z : m * up e * 1 ≡ 0 = omega arith in rw (eq-eqb (m * up e * 1) (0 * down e) y, eq-eqb (m * up e * 1) 0 z)
+
+pub above-least : (x : Float) → lt (inf true) x ≡ true → lt x (inf false) ≡ finite x
+unfolding lt
+above-least nan t = refl
+above-least (inf true) t = sym t
+above-least (inf false) t = refl
+above-least (fin s m e) t = refl
+
+pub not-above : (x : Float) → lt (inf true) x ≡ false → false ≡ finite x
+unfolding lt
+not-above nan t = refl
+not-above (inf s) t = refl
+not-above (fin s m e) t = sym t

@@ -1,7 +1,7 @@
 use lib.Ieee.{div, neg, ofBits}
-use Rattle.seam.proofs.Cuts.{above-least, not-above}
-use Rattle.seam.proofs.reseam.is_finite.Statement.{statement}
-use Rattle.seam.proofs.reseam.is_finite.Tie as tie
+use Rattle.numbers.proofs.order.Laws.{above-least, not-above}
+use Rattle.numbers.proofs.order.is_finite.Statement.{statement}
+use Rattle.numbers.proofs.order.is_finite.Tie as tie
 
 returns : tie.Need-returns
 unfolding div neg ofBits
