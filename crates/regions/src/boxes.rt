@@ -8,18 +8,13 @@ use loops::part::part;
 use loops::span::greatest;
 use loops::span::least;
 use slices::at;
+use slices::shorter;
 
 pub struct Bounds {
     pub ulo: f64,
     pub uhi: f64,
     pub vlo: f64,
     pub vhi: f64,
-}
-
-fn shorter(m: usize, n: usize) -> usize
-    ensures { λ r. ⌜ r ≡ min m n ⌝ }
-{
-    if m < n { m } else { n }
 }
 
 // How many loops a table has.

@@ -1,7 +1,7 @@
 // The widest gap between the holes on the strip. What a hole covers stands in two slices, the lower
 // and the upper ends.
 ghost use mathlib.Core.Path.{_≡_};
-ghost use Prim.Native.Nat.{_+_, _≤_, _<_, min};
+ghost use Prim.Native.Nat.{_+_, _≤_, _<_};
 ghost use lib.Ieee.{nan};
 ghost use lib.ListN.{length, getD, drop};
 ghost use Rattle.lists.specs.Parts.{onPart};
@@ -11,6 +11,7 @@ ghost use Rattle.seam.specs.Gap as Gaps;
 use numbers::order::max;
 use rings::moves::Move;
 use rings::moves::begin;
+use slices::shorter;
 
 // How far the holes reach so far, the widest gap before them, and its middle.
 pub struct Gap {
@@ -37,12 +38,6 @@ fn passed(g: Gap, low: f64, high: f64) -> Gap
         width: g.width,
         cut: g.cut,
     }
-}
-
-fn shorter(m: usize, n: usize) -> usize
-    ensures { λ r. ⌜ r ≡ min m n ⌝ }
-{
-    if m < n { m } else { n }
 }
 
 // Holes in the order in which they begin, on the strip from lo to hi.

@@ -2,11 +2,18 @@
 // contract says by `placed` that nothing changes then.
 ghost use mathlib.Core.Path.{_≡_};
 ghost use mathlib.Core.List.{reverse};
-ghost use Prim.Native.Nat.{_+_};
+ghost use Prim.Native.Nat.{_+_, min};
 ghost use lib.Dec.{leb};
 ghost use lib.Ieee.{nan};
 ghost use lib.ListN.{length, getD, set, replicate};
 ghost use Rattle.lists.specs.Placed.{placed};
+
+// The shorter of two lengths.
+pub fn shorter(m: usize, n: usize) -> usize
+    ensures { λ r. ⌜ r ≡ min m n ⌝ }
+{
+    if m < n { m } else { n }
+}
 
 // The element at i, and a NaN past the end: a read that asks nothing.
 pub fn at(s: &[f64], i: usize) -> f64

@@ -3,7 +3,7 @@
 ghost use mathlib.Core.Path.{_≡_};
 ghost use mathlib.Core.Bool.{cond};
 ghost use mathlib.Core.List.{_++_, map, reverse};
-ghost use Prim.Native.Nat.{_-_, _≤_, _<_, min};
+ghost use Prim.Native.Nat.{_-_, _≤_, _<_};
 ghost use lib.Ieee.{le};
 ghost use lib.ListN.{length, replicate};
 ghost use lib.Seq.{sets};
@@ -21,6 +21,7 @@ use numbers::math::Interval;
 use numbers::math::Vec2;
 use numbers::math::Vec3;
 use slices::put;
+use slices::shorter;
 use surfaces::knots::merge_even;
 use surfaces::knots::merge_even_steps;
 use surfaces::options::Resolved;
@@ -217,12 +218,6 @@ fn put_positions(
         put(z, i, p.z);
         i += 1;
     }
-}
-
-fn shorter(m: usize, n: usize) -> usize
-    ensures { λ r. ⌜ r ≡ min m n ⌝ }
-{
-    if m < n { m } else { n }
 }
 
 fn room_in_all(n: usize, u: &[f64], v: &[f64], x: &[f64], y: &[f64], z: &[f64]) -> bool
