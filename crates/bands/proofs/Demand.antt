@@ -7,7 +7,7 @@ use mathlib.Core.Logic.{_⊎_, inl, inr}
 use native.Mathlib.Omega.{arith}
 use lib.Dec.{ltb, eqb}
 use lib.IntN.{ℤ, _+ℤ_, negℤ}
-use lib.Ieee.{Float, ne}
+use lib.Ieee.{Float}
 use lib.ListN.{length, length-map}
 use Rattle.numbers.specs.Rounded.{_⊕_, _⊖_}
 use Rattle.lists.proofs.Maps.{map-reverse}
@@ -23,7 +23,7 @@ use Rattle.bands.specs.Corners.{Corner, Corners, us, positions, moveU, m
 use Rattle.rings.specs.Choices.{firstOf, nearest}
 use Rattle.rings.specs.Turns.{unlessZero, beginRingAt, turnedOnto, alignAt}
 use Rattle.rings.specs.Starts.{start}
-use Rattle.rings.proofs.Carried.{map-cond, map-unlessZero, map-beginRingAt, map-alignAt}
+use Rattle.rings.proofs.Carried.{map-unchanged, unless-unchanged, map-cond, map-unlessZero, map-beginRingAt, map-alignAt}
 use Rattle.bands.specs.Given.{Loop, Given}
 use Rattle.bands.specs.Rings.{Face, rising, shifted, laid, raised, seam, onto, onStrip, acrossSeam, gapOf, cutAnew, hasStrip, hasGap, reseam, alignCuts, slideToCut, trial, started}
 use Rattle.bands.specs.Strip.{Setting, heights, wall, strip}
@@ -43,18 +43,6 @@ module _ {A : Type 0} where
   unmoved-v : (f : Float → Float) (r : Corners A) → positions (map (moveV f) r) ≡ positions r
   unmoved-v f r = map-map at (moveV f) r
 
-  unless-same : (step : Float) (xs : List A) → unlessZero step unchanged xs ≡ xs
-  unfolding unlessZero
-  unless-same step xs = both (ne step _)
-    where
-      all : (xs : List A) → map unchanged xs ≡ xs
-      all [] = refl
-      all (x ∷ xs) = ap (λ (l : List A). x ∷ l) (all xs)
-
-      both : (t : Bool) → cond t (map unchanged xs) xs ≡ xs
-      both true = all xs
-      both false = refl
-
   -- ---- a ring turned
 
   turn-if : (t : Bool) (k : ℕ) (xs : List A) → Turn xs (cond t xs (turned unchanged k xs))
@@ -68,12 +56,8 @@ module _ {A : Type 0} where
   align-turn : (k : ℕ) (xs : List A) → Turn xs (alignAt unchanged unchanged k xs)
   unfolding alignAt turnedOnto turned
   align-turn k xs =
-      subst (λ (ys : List A). Turn xs (cond (ltb (length xs) 3) xs (closed unchanged ys))) (sym (unmoved (begun unchanged k _)))
+      subst (λ (ys : List A). Turn xs (cond (ltb (length xs) 3) xs (closed unchanged ys))) (sym (map-unchanged (begun unchanged k _)))
       (turn-if (ltb (length xs) 3) k xs)
-    where
-      unmoved : (ys : List A) → map unchanged ys ≡ ys
-      unmoved [] = refl
-      unmoved (y ∷ ys) = ap (λ (l : List A). y ∷ l) (unmoved ys)
 
   -- a turn of a ring whose ends meet has its counts
   module _ (same : A → A → Bool) (P : PartialEquivalence same) where
@@ -117,7 +101,7 @@ module _ {A : Type 0} (period : Float) where
 
   onto-is : (lo : Float) (hole : Corners A) → positions (onto period lo hole) ≡ positions hole
   unfolding onto
-  onto-is lo hole = map-unlessZero at _ unchanged (λ c. refl) _ hole ∙ unless-same _ (positions hole)
+  onto-is lo hole = map-unlessZero at _ unchanged (λ c. refl) _ hole ∙ unless-unchanged _ (positions hole)
 
   ontos-are : (lo : Float) (hs : List (Corners A)) → map positions (map (onto period lo) hs) ≡ map positions hs
   ontos-are lo [] = refl
@@ -145,7 +129,7 @@ module _ {A : Type 0} (period : Float) where
   unfolding slideToCut alignCuts
   aligned-turn cut r =
       subst (Turn (positions r))
-      (sym (map-unlessZero at _ unchanged (λ c. refl) _ (alignCuts period cut r) ∙ unless-same _ (positions (alignCuts period cut r))
+      (sym (map-unlessZero at _ unchanged (λ c. refl) _ (alignCuts period cut r) ∙ unless-unchanged _ (positions (alignCuts period cut r))
       ∙ map-alignAt at (raised period) unchanged (λ c. refl) _ unchanged (λ c. refl) (nearest period cut (us r)) r))
       (align-turn (nearest period cut (us r)) (positions r))
 

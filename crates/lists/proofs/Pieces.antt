@@ -1,7 +1,7 @@
 -- Loops over the pieces of a list: each begins where the one before it ended.
 use Prim.Native.Nat.{ℕ, zero, suc, _+_, _-_, _≤_, _<_, min}
 use mathlib.Core.Path.{_≡_, refl, sym, ap, _∙_}
-use mathlib.Core.List.{List, [], _∷_, _++_, append-assoc}
+use mathlib.Core.List.{List, [], _∷_, _++_, map, append-assoc}
 use native.Mathlib.Nat.{zero-min, min-zero, suc-min-suc}
 use native.Mathlib.Numerals.{add-one}
 use native.Mathlib.Omega.{arith}
@@ -42,6 +42,33 @@ module _ {A : Type 0} where
 
       behind : drop n (drop from xs) ≡ drop to xs
       behind = drop-drop n from xs ∙ sym (ap (λ (k : ℕ). drop k xs) e ∙ drop-most (from + n) xs)
+
+  -- ---- the pieces of a list whose pieces were changed
+
+  -- what is as long as the front of a list and what is as long as its rest are told apart as they are
+  halves : (n : ℕ) (xs a b : List A) → length a ≡ length (take n xs) → length b ≡ length (drop n xs) → (take n (a ++ b) ≡ a) × (drop n (a ++ b) ≡ b)
+  halves zero xs [] b ha hb = (refl, refl)
+  halves zero xs (y ∷ a) b ha hb = absurd (omega arith)
+  halves (suc n) [] [] [] ha hb = (refl, refl)
+  halves (suc n) [] [] (y ∷ b) ha hb = absurd (omega arith)
+  halves (suc n) [] (y ∷ a) b ha hb = absurd (omega arith)
+  halves (suc n) (x ∷ xs) [] b ha hb = absurd (omega arith)
+  halves (suc n) (x ∷ xs) (y ∷ a) b ha hb = let h = halves n xs a b (omega arith) hb in (ap (λ (l : List A). y ∷ l) (h .0), h .1)
+
+  module _ (f : List A → List A) (same : (l : List A) → length (f l) ≡ length l) where
+    pub length-mapPieces : (ns : List ℕ) (xs : List A) → length (mapPieces f ns xs) ≡ length xs
+    unfolding mapPieces
+    length-mapPieces [] xs = refl
+    length-mapPieces (n ∷ ns) xs =
+        length-append (f (take n xs)) (mapPieces f ns (drop n xs)) ∙ (λ i. same (take n xs) i + length-mapPieces ns (drop n xs) i)
+        ∙ sym (length-append (take n xs) (drop n xs)) ∙ ap length (take-append-drop n xs)
+
+    pub pieces-mapped : (ns : List ℕ) (xs : List A) → pieces ns (mapPieces f ns xs) ≡ map f (pieces ns xs)
+    unfolding pieces mapPieces
+    pieces-mapped [] xs = refl
+    pieces-mapped (n ∷ ns) xs =
+        let h = halves n xs (f (take n xs)) (mapPieces f ns (drop n xs)) (same (take n xs)) (length-mapPieces ns (drop n xs)) in
+        (λ i. h .0 i ∷ pieces ns (h .1 i)) ∙ ap (λ (l : List (List A)). f (take n xs) ∷ l) (pieces-mapped ns (drop n xs))
 
   -- ---- a loop that reads them
 

@@ -8,7 +8,7 @@ use lib.Ieee.{Float, ne}
 use lib.ListN.{length, length-map}
 use Rattle.numbers.specs.Constants.{plusZero}
 use Rattle.lists.proofs.Maps.{map-dropLast}
-use Rattle.loops.specs.Rings.{begun, closed, turned}
+use Rattle.loops.specs.Rings.{begun, closed, turned, unchanged}
 use Rattle.loops.proofs.Projections.{map-begun, map-closed, map-turned}
 use Rattle.rings.specs.Turns.{unlessZero, beginRingAt, turnedOnto, alignAt}
 
@@ -16,7 +16,21 @@ pub map-cond : {A B : Type 0} (g : A → B) (t : Bool) (xs ys : List A) → map 
 map-cond g true xs ys = refl
 map-cond g false xs ys = refl
 
--- f on the whole is f′ on the part
+-- ---- nothing done
+
+pub map-unchanged : {A : Type 0} (xs : List A) → map unchanged xs ≡ xs
+map-unchanged [] = refl
+map-unchanged {A} (x ∷ xs) = ap (λ (l : List A). x ∷ l) (map-unchanged xs)
+
+pub unless-unchanged : {A : Type 0} (step : Float) (xs : List A) → unlessZero step unchanged xs ≡ xs
+unfolding unlessZero
+unless-unchanged {A} step xs = both (ne step plusZero)
+  where
+    both : (t : Bool) → cond t (map unchanged xs) xs ≡ xs
+    both true = map-unchanged xs
+    both false = refl
+
+-- ---- f on the whole is f′ on the part
 module _ {A B : Type 0} (g : A → B) (f : A → A) (f′ : B → B) (e : (a : A) → g (f a) ≡ f′ (g a)) where
   pub map-each : (xs : List A) → map g (map f xs) ≡ map f′ (map g xs)
   map-each [] = refl

@@ -1,0 +1,23 @@
+use Rattle.joining.proofs.Placing.{first-carried}
+use borrow.Author.Needs.{needs}
+use Rattle.joining.proofs.carry.carry_first.Statement.{statement}
+use Rattle.joining.proofs.carry.carry_first.Tie as tie
+use Rattle.joining.proofs.carry.carry_first.Reads as reads
+use Rattle.joining.proofs.carry.carry_first.Lts as lts
+use Rattle.rings.proofs.moves.begin.Reads as begin-reads
+use Rattle.rings.proofs.moves.begin_ring_at.Reads as begin-ring-at-reads
+
+begin-requires : tie.Need-begin-requires
+begin-requires c κs = search needs
+
+begin-ring-at-requires : tie.Need-begin-ring-at-requires
+begin-ring-at-requires c κs = search needs
+
+same-length : tie.Need-same-length
+same-length c = search needs
+
+returns : tie.Need-returns
+returns c = search (first-carried, needs)
+
+pub carry-first-spec : {M : Type 1} → statement M
+carry-first-spec = tie.close (tie.spec begin-requires begin-ring-at-requires same-length returns)
