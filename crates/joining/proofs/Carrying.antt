@@ -17,13 +17,12 @@ use Rattle.seam.specs.declared.gap.Gap.{Gap}
 use Rattle.seam.specs.declared.reseam.Reseamed.{Reseamed}
 use Rattle.seam.specs.declared.reseam.Reseamed.the-variants.{Kept, Recut, NoRoom}
 use Rattle.seam.specs.Reseam as Seam
-use Rattle.seam.specs.Reseam.{Us, reseamU, startsU, seamU, acrossSeamU, gapOfU, hasGapU}
+use Rattle.seam.specs.Reseam.{Us, reseamU, startsU, startsAt, cutU, onStripU, seamU, gapOfU}
+use Rattle.seam.specs.declared.reseam.Cut.the-variants.{Keep, At}
 use Rattle.bands.specs.Corners.{Corner, Corners, us, moveU}
 use Rattle.bands.specs.Rings.{Face, raised, lessU, onStrip, acrossSeam, gapOf, recut, cutAnew, hasStrip, hasGap, reseam, alignCuts, slideToCut, trial, started}
 use Rattle.joining.specs.Joined.{firstCut, laterCut, carriedFirst, carriedLater, startOf, nearestOf, startedU}
-use Rattle.joining.specs.declared.place.Placed.{Placed}
-use Rattle.joining.specs.declared.place.Placed.the-variants.{At, Short}
-use Rattle.joining.proofs.Held.{Held, strip-is, across-is, usable-is, gap-is, held-reseam, held-started}
+use Rattle.joining.proofs.Held.{Held, strip-is, across-is, usable-is, cut-is, held-reseam, held-started}
 
 -- g is what a corner carries: no move along u changes it
 module _ (period : Float) (counts : List ℕ) {A B : Type 0} (g : Corner A → B) (stays : (f : Float → Float) (c : Corner A) → g (moveU f c) ≡ g c) where
@@ -36,24 +35,24 @@ module _ (period : Float) (counts : List ℕ) {A B : Type 0} (g : Corner A → B
   part-recut cut r = map-begun g (raised period) unchanged (stays (λ u. u ⊕ period)) (firstPast cut (us r)) r
 
   module _ (s : Us) (face : Face A) (held : Held counts s face) where
-    cut-is : gapOfU period counts s .cut ≡ gapOf period face .cut
-    cut-is = ap (λ (x : Gap). x .cut) (gap-is period counts s face held)
+    abbrev gap : Float
+    gap = gapOfU period counts (seamU s) (onStripU period counts s .holes) .cut
 
     anew : Reseamed
-    anew = let cut = gapOfU period counts s .cut in Recut (firstPast cut (s .first)) (firstPast cut (s .later))
+    anew = Recut (firstPast gap (s .first)) (firstPast gap (s .later))
 
     -- of either ring: `point` is where it was cut
     part-reseam : (ring : Face A → Corners A) (point : Reseamed → ℕ) → point Kept ≡ 0 → ring (onStrip period face) ≡ ring face
         → map g (ring (cutAnew period face)) ≡ begun unchanged (point anew) (map g (ring face))
         → map g (ring (reseam period face)) ≡ begun unchanged (point (startsU period counts s)) (map g (ring face))
-    unfolding reseam startsU anew
+    unfolding reseam startsU startsAt cutU onStripU anew
     part-reseam ring point kept on cut =
         rw (strip-is period counts s face held) (rw (across-is period counts s face held) (rw (usable-is period counts s face held) (outcome (hasStrip period face) (acrossSeam period face) (hasGap period face))))
       where
         still : map g (ring face) ≡ begun unchanged (point Kept) (map g (ring face))
         still = sym (ap (λ (k : ℕ). begun unchanged k (map g (ring face))) kept ∙ unturned (map g (ring face)))
 
-        outcome : (t a b : Bool) → map g (ring (cond t (cond a (cond b (cutAnew period face) (onStrip period face)) (onStrip period face)) face)) ≡ begun unchanged (point (cond t (cond a (cond b anew Kept) Kept) Kept)) (map g (ring face))
+        outcome : (t a b : Bool) → map g (ring (cond t (cond a (cond b (cutAnew period face) (onStrip period face)) (onStrip period face)) face)) ≡ begun unchanged (point (cond t (startsAt (cond a (cond b (At gap) Keep) Keep) (onStripU period counts s)) Kept)) (map g (ring face))
         outcome false a b = still
         outcome true false b = ap (map g) on ∙ still
         outcome true true false = ap (map g) on ∙ still
@@ -63,13 +62,13 @@ module _ (period : Float) (counts : List ℕ) {A B : Type 0} (g : Corner A → B
     unfolding onStrip cutAnew anew
     part-first =
         part-reseam (λ (f : Face A). f .first) firstCut refl refl
-        (part-recut (gapOf period face .cut) (face .first) ∙ (λ i. begun unchanged (firstPast (sym cut-is i) (sym (held .first) i)) (map g (face .first))))
+        (part-recut (gapOf period face .cut) (face .first) ∙ (λ i. begun unchanged (firstPast (sym (cut-is period counts s face held) i) (sym (held .first) i)) (map g (face .first))))
 
     part-later : map g (reseam period face .later) ≡ begun unchanged (laterCut (startsU period counts s)) (map g (face .later))
     unfolding onStrip cutAnew anew
     part-later =
         part-reseam (λ (f : Face A). f .later) laterCut refl refl
-        (part-recut (gapOf period face .cut) (face .later) ∙ (λ i. begun unchanged (firstPast (sym cut-is i) (sym (held .later) i)) (map g (face .later))))
+        (part-recut (gapOf period face .cut) (face .later) ∙ (λ i. begun unchanged (firstPast (sym (cut-is period counts s face held) i) (sym (held .later) i)) (map g (face .later))))
 
     part-begun : map g (started period face .first) ≡ beginRingAt unchanged (startOf period s) (map g (face .first))
     unfolding started trial startOf

@@ -21,7 +21,9 @@ use Rattle.seam.specs.Gap.{Span, spanOf, widestGap, usable}
 use Rattle.seam.specs.Holes as Holes
 use Rattle.seam.specs.Holes.{ontoU}
 use Rattle.seam.specs.Reseam as Seam
-use Rattle.seam.specs.Reseam.{Us, recutU, seamU, ontoAll, onStripU, acrossSeamU, gapOfU, hasGapU, cutAnewU, reseamU}
+use Rattle.seam.specs.Reseam.{Us, recutU, seamU, ontoAll, onStripU, acrossSeamU, gapOfU, cutU, cutAtU, reseamU}
+use Rattle.seam.specs.declared.reseam.Cut.{Cut}
+use Rattle.seam.specs.declared.reseam.Cut.the-variants.{Keep, At}
 use Rattle.seam.proofs.EachHole.{length-onto}
 use Rattle.bands.specs.Corners.{Corner, Corners, us, moveU}
 use Rattle.bands.specs.Given.{Loop, Given}
@@ -103,59 +105,69 @@ module _ (period : Float) (counts : List ℕ) {A : Type 0} where
   moved-holes lo holes hs e = pieces-mapped (ontoU period lo) (length-onto period lo) counts holes ∙ ap (map (ontoU period lo)) e ∙ sym (ontos lo hs)
 
   module _ (s : Us) (face : Face A) (held : Held counts s face) where
-    least-is : seamU period counts s ≡ seam period face
+    least-is : seamU s ≡ seam period face
     least-is = λ i. leastU (held .first i) (held .later i)
 
-    on-strip : pieces counts (ontoAll period counts (seamU period counts s) (s .holes)) ≡ map us (onStrip period face .holes)
-    unfolding onStrip
+    -- the holes on the strip
+    abbrev on : List Float
+    on = onStripU period counts s .holes
+
+    on-strip : pieces counts on ≡ map us (onStrip period face .holes)
+    unfolding onStripU onStrip
     on-strip = ap (λ (lo : Float). pieces counts (ontoAll period counts lo (s .holes))) least-is ∙ moved-holes (seam period face) (s .holes) (face .holes) (held .holes)
 
-    pub strip-is : Seam.hasStrip (seamU period counts s) (s .first) (s .later) ≡ hasStrip period face
+    pub strip-is : Seam.hasStrip (seamU s) (s .first) (s .later) ≡ hasStrip period face
     unfolding Seam.hasStrip hasStrip
     strip-is = λ i. finite (least-is i) && lt (least-is i) (greatestU (held .first i) (held .later i))
 
-    pub across-is : acrossSeamU period counts s ≡ acrossSeam period face
+    pub across-is : acrossSeamU period counts (seamU s) on ≡ acrossSeam period face
     unfolding acrossSeamU acrossSeam
     across-is = (λ i. Holes.anyStraddles period (least-is i) (on-strip i)) ∙ sym (some-straddle (seam period face) (onStrip period face .holes))
 
-    pub gap-is : gapOfU period counts s ≡ gapOf period face
+    gap-is : gapOfU period counts (seamU s) on ≡ gapOf period face
     unfolding gapOfU gapOf
     gap-is =
         (λ i. widestGap (least-is i) (least-is i ⊕ period) (map spanOf (on-strip i)))
         ∙ ap (widestGap (seam period face) (seam period face ⊕ period)) (sym (spans (onStrip period face .holes)))
 
-    pub usable-is : hasGapU period counts s ≡ hasGap period face
-    unfolding hasGapU hasGap
+    pub usable-is : usable (seamU s) (seamU s ⊕ period) (gapOfU period counts (seamU s) on) ≡ hasGap period face
+    unfolding hasGap
     usable-is = λ i. usable (least-is i) (least-is i ⊕ period) (gap-is i)
+
+    pub cut-is : gapOfU period counts (seamU s) on .cut ≡ gapOf period face .cut
+    cut-is = ap (λ (g : Gap). g .cut) gap-is
 
     held-on : Held counts (onStripU period counts s) (onStrip period face)
     unfolding onStripU onStrip
     held-on = record { first = held .first; later = held .later; holes = on-strip }
 
-    held-anew : Held counts (cutAnewU period counts (gapOfU period counts s .cut) (onStripU period counts s)) (cutAnew period face)
-    unfolding cutAnewU cutAnew onStripU onStrip
+    held-anew : Held counts (cutAtU period counts (At (gapOfU period counts (seamU s) on .cut)) (onStripU period counts s)) (cutAnew period face)
+    unfolding cutAtU cutAnew onStripU onStrip
     held-anew = record {
-      first = (λ i. recutU period (cut-is i) (held .first i)) ∙ sym (us-recut period cut (face .first));
-      later = (λ i. recutU period (cut-is i) (held .later i)) ∙ sym (us-recut period cut (face .later));
-      holes = ap (λ (c : Float). pieces counts (ontoAll period counts c (onStripU period counts s .holes))) cut-is ∙ moved-holes cut (onStripU period counts s .holes) (onStrip period face .holes) on-strip;
+      first = (λ i. recutU period (cut-is i) (held .first i)) ∙ sym (us-recut period (gapOf period face .cut) (face .first));
+      later = (λ i. recutU period (cut-is i) (held .later i)) ∙ sym (us-recut period (gapOf period face .cut) (face .later));
+      holes =
+          ap (λ (c : Float). pieces counts (ontoAll period counts c on)) cut-is
+          ∙ moved-holes (gapOf period face .cut) on (onStrip period face .holes) on-strip;
     }
-      where
-        cut : Float
-        cut = gapOf period face .cut
 
-        cut-is : gapOfU period counts s .cut ≡ cut
-        cut-is = ap (λ (g : Gap). g .cut) gap-is
+    held-kept : Held counts (cutAtU period counts Keep (onStripU period counts s)) (onStrip period face)
+    unfolding cutAtU
+    held-kept = held-on
 
     pub held-reseam : Held counts (reseamU period counts s) (reseam period face)
-    unfolding reseamU reseam
+    unfolding reseamU reseam cutU
     held-reseam = rw strip-is (rw across-is (rw usable-is (outcome (hasStrip period face) (acrossSeam period face) (hasGap period face))))
       where
+        anew : Cut
+        anew = At (gapOfU period counts (seamU s) on .cut)
+
         outcome : (t a b : Bool)
-            → Held counts (cond t (cond a (cond b (cutAnewU period counts (gapOfU period counts s .cut) (onStripU period counts s)) (onStripU period counts s)) (onStripU period counts s)) s)
+            → Held counts (cond t (cutAtU period counts (cond a (cond b anew Keep) Keep) (onStripU period counts s)) s)
             (cond t (cond a (cond b (cutAnew period face) (onStrip period face)) (onStrip period face)) face)
         outcome false a b = held
-        outcome true false b = held-on
-        outcome true true false = held-on
+        outcome true false b = held-kept
+        outcome true true false = held-kept
         outcome true true true = held-anew
 
     pub held-started : Held counts (startedU period s) (started period face)

@@ -77,10 +77,13 @@ module _ (period : Float) where
       unfolding searchOf short startOf nearestOf startedU laterFor
       found true h e = absurd (true≢false (ap isFound (e ∙ ap (λ (x : Bool). cond x NoRoom (Found (start period f l) (tried period f l) (served period f l))) h)))
       found false h e =
-          rw h
-          ( (λ m. At i j (start-is m) ((near-is ∙ (λ o. nearest period (at-cut o) l)) m))
-          , ( first-is ∙ (λ m. firstFor period (start-is m) f)
-          , later-is ∙ (λ m. slidU period (at-cut m) (alignedU period (at-cut m) l))))
+          rw h (
+            (λ m. At i j (start-is m) ((near-is ∙ (λ o. nearest period (at-cut o) l)) m)),
+            (
+              first-is ∙ (λ m. firstFor period (start-is m) f),
+              later-is ∙ (λ m. slidU period (at-cut m) (alignedU period (at-cut m) l)),
+            ),
+          )
         where
           start-is : k ≡ start period f l
           start-is = ap startFound (e ∙ ap (λ (x : Bool). cond x NoRoom (Found (start period f l) (tried period f l) (served period f l))) h)

@@ -72,7 +72,7 @@ module _ (period : Float) where
 
     -- whether l and h places for the holes' ends and t for a trial of both rings are enough
     unfoldable pub roomy : ℕ → ℕ → ℕ → Us → Bool
-    roomy l h t s = hasRoom period counts l h && not (short t s)
+    roomy l h t s = hasRoom counts l h && not (short t s)
 
     unfoldable pub placedOf : ℕ → ℕ → ℕ → Us → Placed
     placedOf l h t s = cond (roomy l h t s) (turnsOf s) Short

@@ -41,7 +41,7 @@ same-length-3 : tie.Need-same-length-3
 same-length-3 c = search needs
 
 returns : tie.Need-returns
-returns c = search (not-begun, needs)
+returns c = not-begun _ _ _ _ _ _ _ (c .enum-told .given .1) (c .before .before .before .before .search-start .ensures .0)
 
 same-length-4 : tie.Need-same-length-4
 same-length-4 c = search needs
@@ -53,7 +53,7 @@ same-length-6 : tie.Need-same-length-6
 same-length-6 c = search needs
 
 returns-2 : tie.Need-returns-2
-returns-2 c = search (begun-found, needs)
+returns-2 c = begun-found _ _ _ _ _ _ _ _ _ _ _ _ _ (c .before .before .before .before .before .before .before .before .before .before .first-for .ensures) (c .before .before .before .before .before .before .first-of .ensures) (c .before .before .before .before .nearest .ensures) (c .before .before .later-for .ensures) _ (c .before .before .before .before .before .before .before .before .before .before .before .before .before .start .given .1) (c .before .before .before .before .before .before .before .before .before .before .before .before .before .before .before .before .before .search-start .ensures .0)
 
 pub begin-rings-spec : {M : Type 1} → statement M
 begin-rings-spec =
