@@ -1,3 +1,4 @@
 pub mod Held
 pub mod Carrying
 pub mod Placing
+pub mod Reseaming

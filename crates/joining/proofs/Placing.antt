@@ -56,7 +56,7 @@ module _ (period : Float) where
   shift-is least first step xs ys ef es e = e ∙ (λ i. map (movedBy (Down (es i))) xs) ∙ (λ i. map (movedBy (Down (branchShift (ef i) least period))) xs)
 
   -- what `begin_rings` answers with t places lent
-  abbrev Begun : ℕ → ℕ → ℕ → List Float → List Float → List Float → List Float → Placed → Type 0
+  abbrev pub Begun : ℕ → ℕ → ℕ → List Float → List Float → List Float → List Float → Placed → Type 0
   Begun t i j f l f′ l′ r =
       let s = us f l [] in
       (r ≡ cond (short period t s) Short (At i j (startOf period s) (nearestOf period s)))

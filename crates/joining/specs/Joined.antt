@@ -1,7 +1,8 @@
 -- Two rings and the holes as the strip takes them, by their u alone, and the points at which all else that a corner carries is turned. The sentences are
 -- those of 01, "Bands".
 use Prim.Native.Nat.{ℕ, _+_}
-use mathlib.Core.Bool.{Bool, cond, not, _&&_}
+use mathlib.Core.Path.{_≡_}
+use mathlib.Core.Bool.{Bool, true, cond, not, _&&_}
 use mathlib.Core.List.{List, map, reverse}
 use lib.Dec.{ltb}
 use lib.Ieee.{Float}
@@ -76,3 +77,8 @@ module _ (period : Float) where
 
     unfoldable pub placedOf : ℕ → ℕ → ℕ → Us → Placed
     placedOf l h t s = cond (roomy l h t s) (turnsOf s) Short
+
+    -- what is answered, and where the u of rings and holes then stand
+    pub record PlacedAs (l h t : ℕ) (s s′ : Us) (r : Placed) : Type 0 where
+      pub answer : r ≡ placedOf l h t s
+      pub is : roomy l h t s ≡ true → s′ ≡ joinedU s

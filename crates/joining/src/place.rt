@@ -4,13 +4,15 @@ ghost use mathlib.Core.Bool.{cond};
 ghost use mathlib.Core.List.{[]};
 ghost use lib.ListN.{length};
 ghost use Rattle.seam.specs.Reseam.{us};
-ghost use Rattle.joining.specs.Joined.{shiftedU, short, startOf, nearestOf, startedU};
+ghost use Rattle.joining.specs.Joined.{shiftedU, short, startOf, nearestOf, startedU, PlacedAs};
 ghost use Rattle.joining.specs.declared.place.Placed.the-variants.{At, Short};
 use loops::branch::branch_shift;
 use rings::choices::first_of;
 use rings::choices::nearest;
 use rings::moves::Move;
 use rings::moves::move_all;
+use seam::reseam::Reseamed;
+use seam::reseam::reseam_u;
 use starts::Search;
 use starts::first_for;
 use starts::later_for;
@@ -67,5 +69,28 @@ fn begin_rings(
                 nearest: near,
             }
         }
+    }
+}
+
+// Both rings and the holes, laid on one branch, brought where the strip takes them. low and high are
+// lent for the holes' ends, trial for a copy of both rings: where one is too short the answer is Short,
+// and what the others then hold says nothing.
+pub fn place_rings(
+    first: &mut [f64],
+    later: &mut [f64],
+    holes: &mut [f64],
+    counts: &[usize],
+    low: &mut [f64],
+    high: &mut [f64],
+    trial: &mut [f64],
+    period: f64,
+) -> Placed
+    ensures { λ r. ⌜ PlacedAs period (now (counts .entry)) (length (now (low .entry))) (length (now (high .entry))) (length (now (trial .entry)))
+        (us (now (first .entry)) (now (later .entry)) (now (holes .entry))) (us (now (first .exit)) (now (later .exit)) (now (holes .exit))) r ⌝ }
+{
+    match reseam_u(first, later, holes, counts, low, high, period) {
+        Reseamed::NoRoom => Placed::Short,
+        Reseamed::Kept => begin_rings(trial, first, later, 0, 0, period),
+        Reseamed::Recut { first: i, later: j } => begin_rings(trial, first, later, i, j, period),
     }
 }
