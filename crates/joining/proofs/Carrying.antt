@@ -3,24 +3,20 @@ use Prim.Native.Nat.{ℕ}
 use mathlib.Core.Path.{_≡_, refl, sym, ap, _∙_}
 use mathlib.Core.Bool.{Bool, true, false, cond}
 use mathlib.Core.List.{List, map, append-nil}
-use lib.Ieee.{Float, nan, ne}
-use lib.ListN.{length, getD}
-use Rattle.numbers.specs.Rounded.{_⊕_, _⊖_}
-use Rattle.loops.specs.Branch.{branchShift}
+use lib.Ieee.{Float}
+use Rattle.numbers.specs.Rounded.{_⊕_}
 use Rattle.loops.specs.Rings.{begun, unchanged}
 use Rattle.loops.proofs.Projections.{map-begun}
 use Rattle.rings.specs.Choices.{firstOf, firstPast, nearest}
-use Rattle.rings.specs.Turns.{unlessZero, beginRingAt, alignAt}
+use Rattle.rings.specs.Turns.{beginRingAt, alignAt}
 use Rattle.rings.specs.Starts.{firstFor, start}
 use Rattle.rings.proofs.Carried.{unless-unchanged, map-unlessZero, map-beginRingAt, map-alignAt}
-use Rattle.seam.specs.declared.gap.Gap.{Gap}
 use Rattle.seam.specs.declared.reseam.Reseamed.{Reseamed}
-use Rattle.seam.specs.declared.reseam.Reseamed.the-variants.{Kept, Recut, NoRoom}
-use Rattle.seam.specs.Reseam as Seam
+use Rattle.seam.specs.declared.reseam.Reseamed.the-variants.{Kept, Recut}
 use Rattle.seam.specs.Reseam.{Us, reseamU, startsU, startsAt, cutU, onStripU, seamU, gapOfU}
 use Rattle.seam.specs.declared.reseam.Cut.the-variants.{Keep, At}
 use Rattle.bands.specs.Corners.{Corner, Corners, us, moveU}
-use Rattle.bands.specs.Rings.{Face, raised, lessU, onStrip, acrossSeam, gapOf, recut, cutAnew, hasStrip, hasGap, reseam, alignCuts, slideToCut, trial, started}
+use Rattle.bands.specs.Rings.{Face, raised, onStrip, acrossSeam, gapOf, recut, cutAnew, hasStrip, hasGap, reseam, alignCuts, slideToCut, trial, started}
 use Rattle.joining.specs.Joined.{firstCut, laterCut, carriedFirst, carriedLater, startOf, nearestOf, startedU}
 use Rattle.joining.proofs.Held.{Held, strip-is, across-is, usable-is, cut-is, held-reseam, held-started}
 

@@ -5,15 +5,15 @@ use mathlib.Core.Bool.{Bool, true, false, cond, _&&_, _||_}
 use mathlib.Core.List.{List, [], _∷_, map, reverse}
 use lib.Ieee.{Float, nan, lt}
 use lib.Ieee.Scale.{finite}
-use lib.ListN.{length, getD}
+use lib.ListN.{getD}
 use Rattle.numbers.specs.Rounded.{_⊕_, _⊖_}
-use Rattle.lists.specs.Pieces.{pieces, mapPieces}
+use Rattle.lists.specs.Pieces.{pieces}
 use Rattle.lists.proofs.Maps.{map-reverse}
 use Rattle.lists.proofs.Pieces.{pieces-mapped}
 use Rattle.loops.specs.Branch.{branchShift}
 use Rattle.loops.proofs.Projections.{map-begun}
 use Rattle.rings.specs.Choices.{leastU, greatestU, firstOf, firstPast, nearest, stripShift, straddles}
-use Rattle.rings.specs.Turns.{unlessZero, beginRingAt, alignAt}
+use Rattle.rings.specs.Turns.{beginRingAt}
 use Rattle.rings.specs.Starts.{alignedU, slidU, firstFor, laterFor, start, raise}
 use Rattle.rings.proofs.Carried.{map-cond, map-each, map-unlessZero, map-beginRingAt, map-alignAt}
 use Rattle.seam.specs.declared.gap.Gap.{Gap}
@@ -26,8 +26,8 @@ use Rattle.seam.specs.declared.reseam.Cut.{Cut}
 use Rattle.seam.specs.declared.reseam.Cut.the-variants.{Keep, At}
 use Rattle.seam.proofs.EachHole.{length-onto}
 use Rattle.bands.specs.Corners.{Corner, Corners, us, moveU}
-use Rattle.bands.specs.Given.{Loop, Given}
-use Rattle.bands.specs.Rings.{Face, rising, shifted, laid, lessU, raised, seam, onto, onStrip, anyStraddles, acrossSeam, gapOf, recut, cutAnew, hasStrip, hasGap, reseam, alignCuts, slideToCut, trial, started}
+use Rattle.bands.specs.Given.{Loop}
+use Rattle.bands.specs.Rings.{Face, rising, shifted, lessU, raised, seam, onto, onStrip, anyStraddles, acrossSeam, gapOf, recut, cutAnew, hasStrip, hasGap, reseam, alignCuts, slideToCut, trial, started}
 use Rattle.joining.specs.Joined.{risen, shiftedU, startOf, startedU, joinedU}
 
 module _ {A : Type 0} where
@@ -43,7 +43,7 @@ module _ {A : Type 0} where
       ∙ ap (λ (xs : List _). cond (l .falls) xs (map g (l .corners))) (map-reverse g (l .corners))
 
   module _ (period : Float) where
-    us-shifted : (least : Float) (r : Corners A) → us (shifted period least r) ≡ shiftedU period least (us r)
+    pub us-shifted : (least : Float) (r : Corners A) → us (shifted period least r) ≡ shiftedU period least (us r)
     unfolding shifted shiftedU
     us-shifted least r = let step = branchShift (firstOf (us r)) least period in map-each u-of (lessU period step) (λ u. u ⊖ step) (λ c. refl) r
 

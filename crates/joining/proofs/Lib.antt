@@ -2,3 +2,4 @@ pub mod Held
 pub mod Carrying
 pub mod Placing
 pub mod Reseaming
+pub mod Joins

@@ -1,12 +1,9 @@
 -- Both rings where the code puts them.
-use Prim.Native.Nat.{ℕ, _+_, _<_}
+use Prim.Native.Nat.{ℕ}
 use mathlib.Core.Path.{_≡_, refl, sym, ap, _∙_}
 use mathlib.Core.Bool.{Bool, true, false, cond, true≢false}
 use mathlib.Core.List.{List, [], map, reverse}
-use lib.Dec.{ltb}
 use lib.Ieee.{Float}
-use lib.ListN.{length}
-use Rattle.numbers.specs.Rounded.{_⊖_}
 use Rattle.loops.specs.Branch.{branchShift}
 use Rattle.loops.specs.Rings.{begun}
 use Rattle.rings.specs.Choices.{firstOf, nearest}
@@ -17,7 +14,7 @@ use Rattle.rings.specs.Starts.{alignedU, slidU, firstFor, laterFor, start}
 use Rattle.starts.specs.declared.Search.{Search}
 use Rattle.starts.specs.declared.Search.the-variants.{Found, NoRoom}
 use Rattle.starts.specs.Search.{searchOf, tried, served}
-use Rattle.seam.specs.Reseam.{Us, us}
+use Rattle.seam.specs.Reseam.{us}
 use Rattle.joining.specs.Joined.{risen, carriedFirst, carriedLater, shiftedU, short, startOf, nearestOf, startedU}
 use Rattle.joining.specs.declared.place.Placed.{Placed}
 use Rattle.joining.specs.declared.place.Placed.the-variants.{At, Short}

@@ -13,7 +13,6 @@ use Rattle.seam.specs.declared.reseam.Cut.{Cut}
 use Rattle.seam.specs.declared.reseam.Cut.the-variants.{Keep, At}
 use Rattle.seam.specs.declared.reseam.Reseamed.{Reseamed}
 use Rattle.seam.specs.declared.reseam.Reseamed.the-variants.{Kept, Recut, NoRoom}
-use Rattle.seam.specs.Reseam as Seam
 use Rattle.seam.specs.Reseam.{Us, us, seamU, hasStrip, hasRoom, startsAt, recutU, onStripU, cutU, cutAtU, reseamU, startsU, reseamed, answer}
 use Rattle.joining.specs.Joined.{firstCut, laterCut, short, startOf, nearestOf, startedU, joinedU, turnsOf, roomy, placedOf, PlacedAs}
 use Rattle.joining.specs.declared.place.Placed.{Placed}

@@ -2,10 +2,6 @@ use Rattle.joining.proofs.Placing.{first-carried}
 use borrow.Author.Needs.{needs}
 use Rattle.joining.proofs.carry.carry_first.Statement.{statement}
 use Rattle.joining.proofs.carry.carry_first.Tie as tie
-use Rattle.joining.proofs.carry.carry_first.Reads as reads
-use Rattle.joining.proofs.carry.carry_first.Lts as lts
-use Rattle.rings.proofs.moves.begin.Reads as begin-reads
-use Rattle.rings.proofs.moves.begin_ring_at.Reads as begin-ring-at-reads
 
 begin-requires : tie.Need-begin-requires
 begin-requires c κs = search needs

@@ -2,10 +2,6 @@ use Rattle.joining.proofs.Placing.{later-carried}
 use borrow.Author.Needs.{needs}
 use Rattle.joining.proofs.carry.carry_later.Statement.{statement}
 use Rattle.joining.proofs.carry.carry_later.Tie as tie
-use Rattle.joining.proofs.carry.carry_later.Reads as reads
-use Rattle.joining.proofs.carry.carry_later.Lts as lts
-use Rattle.rings.proofs.moves.align_at.Reads as align-at-reads
-use Rattle.rings.proofs.moves.begin.Reads as begin-reads
 
 begin-requires : tie.Need-begin-requires
 begin-requires c κs = search needs

@@ -2,9 +2,6 @@ use Rattle.joining.proofs.Placing.{rises, stays}
 use borrow.Author.Needs.{needs}
 use Rattle.joining.proofs.carry.rise.Statement.{statement}
 use Rattle.joining.proofs.carry.rise.Tie as tie
-use Rattle.joining.proofs.carry.rise.Reads as reads
-use Rattle.joining.proofs.carry.rise.Lts as lts
-use Rattle.rings.proofs.moves.reverse.Reads as reverse-reads
 
 reverse-requires : tie.Need-reverse-requires
 reverse-requires c κs = search needs

@@ -2,13 +2,6 @@ use Rattle.joining.proofs.Placing.{not-begun, begun-found}
 use borrow.Author.Needs.{needs}
 use Rattle.joining.proofs.place.begin_rings.Statement.{statement}
 use Rattle.joining.proofs.place.begin_rings.Tie as tie
-use Rattle.joining.proofs.place.begin_rings.Reads as reads
-use Rattle.joining.proofs.place.begin_rings.Lts as lts
-use Rattle.rings.proofs.choices.first_of.Reads as first-of-reads
-use Rattle.rings.proofs.choices.nearest.Reads as nearest-reads
-use Rattle.starts.proofs.first_for.Reads as first-for-reads
-use Rattle.starts.proofs.later_for.Reads as later-for-reads
-use Rattle.starts.proofs.search_start.Reads as search-start-reads
 
 search-start-requires : tie.Need-search-start-requires
 search-start-requires c κs = search needs

@@ -3,10 +3,6 @@ use mathlib.Core.Path.{refl}
 use borrow.Author.Needs.{needs}
 use Rattle.joining.proofs.place.place_rings.Statement.{statement}
 use Rattle.joining.proofs.place.place_rings.Tie as tie
-use Rattle.joining.proofs.place.place_rings.Reads as reads
-use Rattle.joining.proofs.place.place_rings.Lts as lts
-use Rattle.joining.proofs.place.begin_rings.Reads as begin-rings-reads
-use Rattle.seam.proofs.reseam.reseam_u.Reads as reseam-u-reads
 
 reseam-u-requires : tie.Need-reseam-u-requires
 reseam-u-requires c κs = search needs

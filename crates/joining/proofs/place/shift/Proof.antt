@@ -2,11 +2,6 @@ use Rattle.joining.proofs.Placing.{shift-is}
 use borrow.Author.Needs.{needs}
 use Rattle.joining.proofs.place.shift.Statement.{statement}
 use Rattle.joining.proofs.place.shift.Tie as tie
-use Rattle.joining.proofs.place.shift.Reads as reads
-use Rattle.joining.proofs.place.shift.Lts as lts
-use Rattle.loops.proofs.branch.branch_shift.Reads as branch-shift-reads
-use Rattle.rings.proofs.choices.first_of.Reads as first-of-reads
-use Rattle.rings.proofs.moves.move_all.Reads as move-all-reads
 
 first-of-requires : tie.Need-first-of-requires
 first-of-requires c κs = search needs
