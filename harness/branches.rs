@@ -15,6 +15,8 @@ macro_rules! branches {
 branches! {
     // closed_region and rephase_holes
     OneEncloses LargestArea HoleStays HoleMovedInU HoleMovedInV
+    // full_domain_loop: the least and the greatest number of steps
+    StepsAt3 StepsAt256
     // wrapped_region: rings
     RingReversed RingShifted WrapsTwice
     // reseam

@@ -21,6 +21,7 @@ mod report;
 mod shapes;
 mod surfaces;
 mod values;
+mod whole;
 
 /// The Rust, cut out of its source by `cut.rs`.
 #[allow(dead_code, unused)]
@@ -35,6 +36,7 @@ const LAYERS: &[(&str, fn(&Run))] = &[
     ("surfaces", surfaces::compare),
     ("loops", loops::compare),
     ("regions", regions::compare),
+    ("whole", whole::compare),
     ("records", records::compare),
     ("generator", generator::meet_everything),
 ];

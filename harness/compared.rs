@@ -141,6 +141,33 @@ unsafe extern "C" {
         uperiod: f64,
         vperiod: f64,
     );
+    safe fn compared_full_domain_count(
+        kind: u32,
+        a: f64,
+        b: f64,
+        sag: f64,
+        angle: f64,
+        segments: usize,
+    ) -> usize;
+    fn compared_full_domain_loop(
+        kind: u32,
+        a: f64,
+        b: f64,
+        frame: Placement,
+        sag: f64,
+        angle: f64,
+        segments: usize,
+        u: *mut f64,
+        u_len: usize,
+        v: *mut f64,
+        v_len: usize,
+        x: *mut f64,
+        x_len: usize,
+        y: *mut f64,
+        y_len: usize,
+        z: *mut f64,
+        z_len: usize,
+    ) -> f64;
     fn compared_refusal(face: *const u8, face_len: usize) -> u8;
     fn compared_refusal_place(face: *const u8, face_len: usize) -> usize;
     fn compared_drop_repeats(
@@ -186,6 +213,13 @@ pub fn direction_steps(
     let [a, b] = surface.sizes;
     let Tolerances { sag, angle, segments } = *tolerances;
     compared_direction_steps(surface.kind, a, b, along, lo, hi, other, sag, angle, segments)
+}
+
+/// How many corners the boundary of a whole surface has.
+pub fn full_domain_count(surface: &Surface, tolerances: &Tolerances) -> usize {
+    let [a, b] = surface.sizes;
+    let Tolerances { sag, angle, segments } = *tolerances;
+    compared_full_domain_count(surface.kind, a, b, sag, angle, segments)
 }
 
 // A slice crosses as its pointer and its length, which hold for the time of the call.
@@ -238,6 +272,39 @@ pub fn drop_repeats(corners: &mut [Vec<f64>; 5], n: usize, ks: &mut [usize]) -> 
             n,
             ks.as_mut_ptr(),
             ks.len(),
+        )
+    }
+}
+
+/// Writes the boundary of a whole surface to u, v, x, y, z, and answers its area.
+pub fn full_domain_loop(
+    surface: &Surface,
+    frame: Placement,
+    tolerances: &Tolerances,
+    corners: &mut [Vec<f64>; 5],
+) -> f64 {
+    let [a, b] = surface.sizes;
+    let Tolerances { sag, angle, segments } = *tolerances;
+    let [u, v, x, y, z] = corners;
+    unsafe {
+        compared_full_domain_loop(
+            surface.kind,
+            a,
+            b,
+            frame,
+            sag,
+            angle,
+            segments,
+            u.as_mut_ptr(),
+            u.len(),
+            v.as_mut_ptr(),
+            v.len(),
+            x.as_mut_ptr(),
+            x.len(),
+            y.as_mut_ptr(),
+            y.len(),
+            z.as_mut_ptr(),
+            z.len(),
         )
     }
 }

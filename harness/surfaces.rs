@@ -1,8 +1,8 @@
 //! The layer of surfaces against the Rust: points, domains, step counts and ladders, on random
 //! surfaces and on all limits of document 01, "The face record".
 
-use crate::compared::{self, Limits, Placement, Point};
-use crate::original::{Axis, Vec2, Vec3, direction_steps, merge_even, v_steps};
+use crate::compared::{self, Limits};
+use crate::original::{Axis, Vec2, direction_steps, merge_even, v_steps};
 use crate::report::{Check, Run};
 use crate::shapes::{KINDS, Kind, Shape, at_limits, parameter, shape, symmetric};
 
@@ -50,7 +50,7 @@ fn points(run: &Run) {
     on_shapes(run, "point_at", &KINDS, |check, shape, edge| {
         for [u, v] in pairs(check, shape.limits(), edge) {
             let rust = shape.surface().point_at(Vec2::new(u, v));
-            let rattle = compared::point_at(&numbered(shape), placement(shape), u, v);
+            let rattle = compared::point_at(&shape.numbered(), shape.placed(), u, v);
             let given = [shape.reals(), vec![u, v]].concat();
             check.see(edge, &given, &[rattle.x, rattle.y, rattle.z], &[rust.x, rust.y, rust.z]);
         }
@@ -59,7 +59,7 @@ fn points(run: &Run) {
 
 fn domains(run: &Run) {
     on_shapes(run, "domain", &KINDS, |check, shape, edge| {
-        let Limits { ulo, uhi, vlo, vhi, uperiod, vperiod } = compared::domain(&numbered(shape));
+        let Limits { ulo, uhi, vlo, vhi, uperiod, vperiod } = compared::domain(&shape.numbered());
         let rust = shape.surface().domain();
         // The Rust has no period where the port has the period 0.
         let rust_periods = [rust.u_period, rust.v_period].map(|p| p.unwrap_or(0.0));
@@ -77,7 +77,7 @@ fn wall_steps(run: &Run) {
         for [from, to] in pairs(check, [shape.limits()[1]; 2], edge) {
             // The Rust reads u for free-form kinds alone.
             let rust = v_steps(&shape.surface(), 0.0, from, to, &shape.resolved());
-            let rattle = compared::v_steps(&numbered(shape), from, to, &shape.tolerances());
+            let rattle = compared::v_steps(&shape.numbered(), from, to, &shape.tolerances());
             let given = [shape.reals(), vec![from, to]].concat();
             check.see(edge, &given, &[rattle as f64], &[rust as f64]);
         }
@@ -102,7 +102,7 @@ fn whole_steps(run: &Run) {
         for (axis, lo, hi, other) in stretches {
             let rust = direction_steps(&surface, &domain, axis, lo, hi, other, &shape.resolved());
             let rattle = compared::direction_steps(
-                &numbered(shape),
+                &shape.numbered(),
                 axis == Axis::U,
                 [lo, hi, other],
                 &shape.tolerances(),
@@ -151,15 +151,4 @@ fn ladder(check: &mut Check, edge: bool, lo: f64, hi: f64, n: usize) {
     let mut room = vec![0.0; rust.len()];
     let count = compared::inner_into(lo, hi, n, &mut room);
     check.see(edge, &[lo, hi, n as f64], &room[..count], inner);
-}
-
-fn numbered(shape: &Shape) -> compared::Surface {
-    compared::Surface { kind: shape.kind as u32, sizes: shape.sizes }
-}
-
-fn placement(shape: &Shape) -> Placement {
-    let frame = shape.frame();
-    let [origin, axis, reference] =
-        [frame.origin, frame.axis, frame.ref_dir].map(|p: Vec3| Point { x: p.x, y: p.y, z: p.z });
-    Placement { origin, axis, reference }
 }

@@ -243,7 +243,14 @@ fn regions() -> Vec<Cut> {
                 noted(Branch::HoleMovedInV, shift.v != 0.0);
                 for p in &mut hole.uv",
             ),
-        cut(FACE, "fn full_domain_loop").replace(PATHS, "cad_ir::math::Interval", "Interval", 1),
+        cut(FACE, "fn full_domain_loop")
+            .replace(PATHS, "cad_ir::math::Interval", "Interval", 1)
+            .count(
+                "let us = knots::merge_even(",
+                "noted(Branch::StepsAt3, nu == 3 || nv == 3);
+                noted(Branch::StepsAt256, nu == 256 || nv == 256);
+                let us = knots::merge_even(",
+            ),
     ]
 }
 

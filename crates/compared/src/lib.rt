@@ -6,3 +6,4 @@ pub mod of_records;
 pub mod of_regions;
 pub mod of_repeats;
 pub mod of_surfaces;
+pub mod of_whole;

@@ -31,7 +31,7 @@ pub struct Limits {
     pub vperiod: f64,
 }
 
-fn surface_of(kind: u32, a: f64, b: f64) -> Surface
+pub fn surface_of(kind: u32, a: f64, b: f64) -> Surface
     ensures { λ r. ⌜ r ≡ surfaceOf kind a b ⌝ }
 {
     match kind {
