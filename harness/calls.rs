@@ -32,7 +32,8 @@ pub fn call(random: &mut Random) -> Call {
     Call { lent, record }
 }
 
-fn face(random: &mut Random) -> Face {
+/// A face of any path. A few have more points than a record may have.
+pub fn face(random: &mut Random) -> Face {
     match random.below(16) {
         0 | 1 => whole(random),
         2 => full_strip(random),

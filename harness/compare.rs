@@ -18,6 +18,7 @@ mod records;
 mod reference;
 mod regions;
 mod report;
+mod results;
 mod shapes;
 mod surfaces;
 mod values;
@@ -38,6 +39,7 @@ const LAYERS: &[(&str, fn(&Run))] = &[
     ("regions", regions::compare),
     ("whole", whole::compare),
     ("records", records::compare),
+    ("results", results::compare),
     ("generator", generator::meet_everything),
 ];
 

@@ -29,6 +29,27 @@ pub struct Limits {
     pub vperiod: f64,
 }
 
+/// How many values or bytes there are, if `done` is not 0.
+#[repr(C)]
+struct Counted {
+    done: usize,
+    number: usize,
+}
+
+impl Counted {
+    fn number(self) -> Option<usize> {
+        (self.done != 0).then_some(self.number)
+    }
+}
+
+/// What a result record takes, if `holds` is not 0.
+#[repr(C)]
+struct Room {
+    holds: usize,
+    corners: usize,
+    length: usize,
+}
+
 /// A kind by its number in a face record, with its two sizes.
 pub struct Surface {
     pub kind: u32,
@@ -170,6 +191,52 @@ unsafe extern "C" {
     ) -> f64;
     fn compared_refusal(face: *const u8, face_len: usize) -> u8;
     fn compared_refusal_place(face: *const u8, face_len: usize) -> usize;
+    fn compared_read_counts(
+        face: *const u8,
+        face_len: usize,
+        dst: *mut usize,
+        dst_len: usize,
+    ) -> Counted;
+    fn compared_read_head(
+        face: *const u8,
+        face_len: usize,
+        dst: *mut f64,
+        dst_len: usize,
+    ) -> Counted;
+    fn compared_read_points(
+        face: *const u8,
+        face_len: usize,
+        u: *mut f64,
+        u_len: usize,
+        v: *mut f64,
+        v_len: usize,
+        x: *mut f64,
+        x_len: usize,
+        y: *mut f64,
+        y_len: usize,
+        z: *mut f64,
+        z_len: usize,
+    ) -> Counted;
+    fn compared_result_size(counts: *const usize, counts_len: usize) -> Room;
+    fn compared_write_result(
+        path: u32,
+        counts: *const usize,
+        counts_len: usize,
+        areas: *const f64,
+        areas_len: usize,
+        u: *const f64,
+        u_len: usize,
+        v: *const f64,
+        v_len: usize,
+        x: *const f64,
+        x_len: usize,
+        y: *const f64,
+        y_len: usize,
+        z: *const f64,
+        z_len: usize,
+        out: *mut u8,
+        out_len: usize,
+    ) -> Counted;
     fn compared_drop_repeats(
         u: *mut f64,
         u_len: usize,
@@ -313,6 +380,77 @@ pub fn full_domain_loop(
 pub fn refusal(face: &[u8]) -> (u8, usize) {
     let (data, length) = (face.as_ptr(), face.len());
     unsafe { (compared_refusal(data, length), compared_refusal_place(data, length)) }
+}
+
+/// How many loops there are; their counts are written.
+pub fn read_counts(face: &[u8], lent: &mut [usize]) -> Option<usize> {
+    unsafe { compared_read_counts(face.as_ptr(), face.len(), lent.as_mut_ptr(), lent.len()) }
+        .number()
+}
+
+/// How many reals stand before the points; they are written.
+pub fn read_head(face: &[u8], lent: &mut [f64]) -> Option<usize> {
+    unsafe { compared_read_head(face.as_ptr(), face.len(), lent.as_mut_ptr(), lent.len()) }.number()
+}
+
+/// How many points there are; u, v, x, y, z are written.
+pub fn read_points(face: &[u8], lent: &mut [Vec<f64>; 5]) -> Option<usize> {
+    let [u, v, x, y, z] = lent;
+    let read = unsafe {
+        compared_read_points(
+            face.as_ptr(),
+            face.len(),
+            u.as_mut_ptr(),
+            u.len(),
+            v.as_mut_ptr(),
+            v.len(),
+            x.as_mut_ptr(),
+            x.len(),
+            y.as_mut_ptr(),
+            y.len(),
+            z.as_mut_ptr(),
+            z.len(),
+        )
+    };
+    read.number()
+}
+
+/// The corners and the length of a result record with these counts.
+pub fn result_size(counts: &[usize]) -> Option<[usize; 2]> {
+    let room = unsafe { compared_result_size(counts.as_ptr(), counts.len()) };
+    (room.holds != 0).then_some([room.corners, room.length])
+}
+
+/// The length of the record that is written.
+pub fn write_result(
+    path: u32,
+    counts: &[usize],
+    areas: &[f64],
+    [u, v, x, y, z]: &[Vec<f64>; 5],
+    out: &mut [u8],
+) -> Option<usize> {
+    let written = unsafe {
+        compared_write_result(
+            path,
+            counts.as_ptr(),
+            counts.len(),
+            areas.as_ptr(),
+            areas.len(),
+            u.as_ptr(),
+            u.len(),
+            v.as_ptr(),
+            v.len(),
+            x.as_ptr(),
+            x.len(),
+            y.as_ptr(),
+            y.len(),
+            z.as_ptr(),
+            z.len(),
+            out.as_mut_ptr(),
+            out.len(),
+        )
+    };
+    written.number()
 }
 
 /// The loops of a face as parallel arrays: loop k has counts[k] points from starts[k] on.

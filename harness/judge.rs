@@ -47,8 +47,8 @@ pub fn face_record(face: &Face) -> Vec<u8> {
     out
 }
 
-fn result_record(path: Path, loops: &[&UvLoop]) -> Vec<u8> {
-    let mut out = vec![1, path as u8, loops.len() as u8 - 1, 0];
+pub fn result_record(path: Path, loops: &[&UvLoop]) -> Vec<u8> {
+    let mut out = vec![1, path as u8, (loops.len() - 1) as u8, 0];
     for one in loops {
         out.extend((one.uv.len() as u16).to_le_bytes());
     }

@@ -1,16 +1,27 @@
-//! The check of a face record: refusals 2 to 7. The Rust has no records; this is compared with
-//! `judge.rs`, which was written from document 01's words.
+//! The check of a face record, refusals 2 to 7, and what is read of one. The Rust has no records;
+//! these are compared with `judge.rs`, which was written from document 01's words.
 
-use crate::calls::call;
+use crate::calls::{call, face};
 use crate::compared;
-use crate::judge::{Answer, check, six_bytes};
-use crate::report::Run;
+use crate::faces::Face;
+use crate::judge::{Answer, check, face_record, six_bytes};
+use crate::random::Random;
+use crate::report::{Check, Run};
 
-const CASES: u64 = 200_000;
+const CHECKED: u64 = 200_000;
+const READ: u64 = 50_000;
+
+/// What lent places hold before a call; no record has so large a number.
+const UNTOUCHED: usize = 1 << 40;
 
 pub fn compare(run: &Run) {
+    checks(run);
+    readings(run);
+}
+
+fn checks(run: &Run) {
     let mut checked = run.check("check of a record");
-    for _ in 0..run.times * CASES {
+    for _ in 0..run.times * CHECKED {
         let record = call(&mut checked.random).record;
         let (number, place) = compared::refusal(&record);
         let rattle = six_bytes(u32::from(number), place as u32);
@@ -18,7 +29,124 @@ pub fn compare(run: &Run) {
             Err(Answer::Refused { number, place }) => six_bytes(number, place),
             _ => six_bytes(0, 0),
         };
-        checked.record(&record, &rattle, &expected);
+        checked.see_bytes(false, &record, &rattle, &expected);
     }
     checked.done();
+}
+
+/// Accepted records give back what they were made of. Nothing is written where the record ends too
+/// early or a lent list is too short.
+fn readings(run: &Run) {
+    let mut read = run.check("read_counts, read_head, read_points");
+    for _ in 0..run.times * READ {
+        let face = face(&mut read.random);
+        let mut record = face_record(&face);
+        if check(&record).is_err() {
+            continue;
+        }
+        if read.random.one_in(4) {
+            record.truncate(read.random.below(record.len() as u64) as usize);
+        }
+        read_counts(&mut read, &face, &record);
+        read_head(&mut read, &face, &record);
+        read_points(&mut read, &face, &record);
+    }
+    read.done();
+}
+
+fn read_counts(check: &mut Check, face: &Face, record: &[u8]) {
+    let counts: Vec<usize> = face.loops.iter().map(|l| l.uv.len()).collect();
+    let fits = record.len() >= 5 + 2 * counts.len();
+    let mut lent = vec![UNTOUCHED; room(&mut check.random, counts.len())];
+    let expected = after(fits, &[counts], &[lent.clone()]);
+    let number = compared::read_counts(record, &mut lent);
+    compare_lent(check, face, record, (number, [lent]), expected);
+}
+
+fn read_head(check: &mut Check, face: &Face, record: &[u8]) {
+    let shape = &face.shape;
+    let head = [&shape.placement[..], &shape.sizes, &[shape.sag, shape.angle]].concat();
+    let fits = record.len() >= 5 + 2 * face.loops.len() + 8 * 13;
+    let mut lent = vec![UNTOUCHED as f64; room(&mut check.random, 13)];
+    let expected = after(fits, &[head], &[lent.clone()]);
+    let number = compared::read_head(record, &mut lent);
+    compare_lent(check, face, record, (number, [lent]), expected);
+}
+
+fn read_points(check: &mut Check, face: &Face, record: &[u8]) {
+    let uv = || face.loops.iter().flat_map(|l| &l.uv);
+    let xyz = || face.loops.iter().flat_map(|l| &l.xyz);
+    let points: [Vec<f64>; 5] = [
+        uv().map(|p| p.u).collect(),
+        uv().map(|p| p.v).collect(),
+        xyz().map(|p| p.x).collect(),
+        xyz().map(|p| p.y).collect(),
+        xyz().map(|p| p.z).collect(),
+    ];
+    let fits = record.len() == face_record(face).len();
+    let mut lent = [0; 5].map(|_| vec![UNTOUCHED as f64; points[0].len() + 2]);
+    let short = check.random.below(5) as usize;
+    lent[short].truncate(room(&mut check.random, points[0].len()));
+    let expected = after(fits, &points, &lent);
+    let number = compared::read_points(record, &mut lent);
+    compare_lent(check, face, record, (number, lent), expected);
+}
+
+/// So many places, one less now and then, or some more.
+fn room(random: &mut Random, n: usize) -> usize {
+    match random.below(4) {
+        0 => n.saturating_sub(1),
+        1 => n + 2,
+        _ => n,
+    }
+}
+
+/// How many values are read to each list, and the lists after that: as they were where it does not
+/// fit, or one of them is too short.
+fn after<T: Copy, const N: usize>(
+    fits: bool,
+    values: &[Vec<T>; N],
+    lent: &[Vec<T>; N],
+) -> (Option<usize>, [Vec<T>; N]) {
+    let n = values[0].len();
+    let mut lists = lent.clone();
+    if !fits || lent.iter().any(|list| list.len() < n) {
+        return (None, lists);
+    }
+    for (list, of_values) in lists.iter_mut().zip(values) {
+        list[..n].copy_from_slice(of_values);
+    }
+    (Some(n), lists)
+}
+
+trait Number: Copy {
+    fn real(self) -> f64;
+}
+
+impl Number for usize {
+    fn real(self) -> f64 {
+        self as f64
+    }
+}
+
+impl Number for f64 {
+    fn real(self) -> f64 {
+        self
+    }
+}
+
+fn compare_lent<T: Number, const N: usize>(
+    check: &mut Check,
+    face: &Face,
+    record: &[u8],
+    rattle: (Option<usize>, [Vec<T>; N]),
+    expected: (Option<usize>, [Vec<T>; N]),
+) {
+    let reals = |(number, lists): (Option<usize>, [Vec<T>; N])| {
+        let mut out = vec![number.map_or(-1.0, |n| n as f64)];
+        out.extend(lists.iter().flatten().map(|x| x.real()));
+        out
+    };
+    let given = [vec![record.len() as f64], face.reals()].concat();
+    check.case(&given, &reals(rattle), &reals(expected));
 }

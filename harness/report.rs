@@ -50,12 +50,13 @@ impl Check {
         self.compare(inputs, rattle, rust);
     }
 
-    /// Compares the bytes answered to a record.
-    pub fn record(&mut self, record: &[u8], rattle: &[u8], rust: &[u8]) {
-        self.cases += 1;
+    /// Compares bytes, on an edge or on a random case.
+    pub fn see_bytes(&mut self, edge: bool, given: &[u8], rattle: &[u8], rust: &[u8]) {
+        self.edges += u64::from(edge);
+        self.cases += u64::from(!edge);
         if rattle != rust {
             println!("comparison: {}: DIFFERENT", self.name);
-            for (what, bytes) in [("given", record), ("Rattle", rattle), ("Rust", rust)] {
+            for (what, bytes) in [("given", given), ("Rattle", rattle), ("Rust", rust)] {
                 let hex: String = bytes.iter().map(|b| format!("{b:02x}")).collect();
                 println!("  {what}: {} bytes {hex}", bytes.len());
             }
