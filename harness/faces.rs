@@ -36,6 +36,17 @@ impl Face {
     }
 }
 
+/// Corners as parallel lists: u, v, x, y, z.
+pub fn columns(uv: &[Vec2], xyz: &[Vec3]) -> [Vec<f64>; 5] {
+    [
+        uv.iter().map(|p| p.u).collect(),
+        uv.iter().map(|p| p.v).collect(),
+        xyz.iter().map(|p| p.x).collect(),
+        xyz.iter().map(|p| p.y).collect(),
+        xyz.iter().map(|p| p.z).collect(),
+    ]
+}
+
 /// A face whose loops are patches of the parameter plane, one often round all others.
 pub fn patch(random: &mut Random) -> Face {
     let kind = random.choose(&KINDS);

@@ -1,6 +1,7 @@
 //! The leaf functions on one loop against the Rust.
 
 use crate::compared;
+use crate::faces::columns;
 use crate::items::H;
 use crate::original::{
     Domain, Interval, Vec2, Vec3, drop_repeats, mean_v, nearest_branch, net_wrap, signed_area, span,
@@ -152,16 +153,6 @@ fn corners(random: &mut Random) -> [Vec<f64>; 5] {
         }
     }
     out
-}
-
-fn columns(uv: &[Vec2], xyz: &[Vec3]) -> [Vec<f64>; 5] {
-    [
-        uv.iter().map(|p| p.u).collect(),
-        uv.iter().map(|p| p.v).collect(),
-        xyz.iter().map(|p| p.x).collect(),
-        xyz.iter().map(|p| p.y).collect(),
-        xyz.iter().map(|p| p.z).collect(),
-    ]
 }
 
 fn points(columns: &[Vec<f64>; 5]) -> Vec<Vec3> {

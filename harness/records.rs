@@ -3,7 +3,7 @@
 
 use crate::calls::{call, face};
 use crate::compared;
-use crate::faces::Face;
+use crate::faces::{Face, columns};
 use crate::judge::{Answer, check, face_record, six_bytes};
 use crate::random::Random;
 use crate::report::{Check, Run};
@@ -74,15 +74,9 @@ fn read_head(check: &mut Check, face: &Face, record: &[u8]) {
 }
 
 fn read_points(check: &mut Check, face: &Face, record: &[u8]) {
-    let uv = || face.loops.iter().flat_map(|l| &l.uv);
-    let xyz = || face.loops.iter().flat_map(|l| &l.xyz);
-    let points: [Vec<f64>; 5] = [
-        uv().map(|p| p.u).collect(),
-        uv().map(|p| p.v).collect(),
-        xyz().map(|p| p.x).collect(),
-        xyz().map(|p| p.y).collect(),
-        xyz().map(|p| p.z).collect(),
-    ];
+    let uv: Vec<_> = face.loops.iter().flat_map(|l| l.uv.clone()).collect();
+    let xyz: Vec<_> = face.loops.iter().flat_map(|l| l.xyz.clone()).collect();
+    let points = columns(&uv, &xyz);
     let fits = record.len() == face_record(face).len();
     let mut lent = [0; 5].map(|_| vec![UNTOUCHED as f64; points[0].len() + 2]);
     let short = check.random.below(5) as usize;

@@ -2,8 +2,7 @@
 
 use crate::faces::Face;
 use crate::original::{
-    UvLoop, Vec2, Vec3, closed_region, full_domain_loop, net_wrap, rephase_holes, signed_area,
-    wrapped_region,
+    UvLoop, closed_region, full_domain_loop, net_wrap, rephase_holes, signed_area, wrapped_region,
 };
 
 #[derive(Clone, Copy, PartialEq, Debug)]
@@ -33,13 +32,6 @@ pub fn loops_of(face: &Face) -> Vec<UvLoop> {
         }
     });
     built.collect()
-}
-
-/// The corners of a loop as parallel lists: u, v, x, y, z.
-pub fn columns(of: &UvLoop) -> [Vec<f64>; 5] {
-    let uv = |part: fn(&Vec2) -> f64| of.uv.iter().map(part).collect();
-    let xyz = |part: fn(&Vec3) -> f64| of.xyz.iter().map(part).collect();
-    [uv(|p| p.u), uv(|p| p.v), xyz(|p| p.x), xyz(|p| p.y), xyz(|p| p.z)]
 }
 
 /// None where document 01 refuses: other than two loops wrap, or the surface has no whole boundary.

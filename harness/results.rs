@@ -2,10 +2,11 @@
 //! `judge.rs`, which was written from document 01's words.
 
 use crate::compared;
+use crate::faces::columns;
 use crate::judge::result_record;
 use crate::original::{UvLoop, Vec2, Vec3};
 use crate::random::Random;
-use crate::reference::{Path, columns};
+use crate::reference::Path;
 use crate::report::{Check, Run};
 
 const CASES: u64 = 50_000;
@@ -53,7 +54,7 @@ fn write(check: &mut Check, edge: bool, path: Path, loops: &[UvLoop], expected: 
     let mut areas: Vec<f64> = loops.iter().map(|l| l.area).collect();
     let mut corners: [Vec<f64>; 5] = Default::default();
     for one in loops {
-        for (list, of_one) in corners.iter_mut().zip(columns(one)) {
+        for (list, of_one) in corners.iter_mut().zip(columns(&one.uv, &one.xyz)) {
             list.extend(of_one);
         }
     }

@@ -1,8 +1,8 @@
 //! The whole path against the Rust: the boundary of a surface that no loop trims.
 
 use crate::compared::{full_domain_count, full_domain_loop};
+use crate::faces::columns;
 use crate::original;
-use crate::reference::columns;
 use crate::report::{Check, Run};
 use crate::shapes::{KINDS, Kind, Shape, at_limits, shape};
 
@@ -71,6 +71,6 @@ fn rust_boundary(shape: &Shape) -> (f64, [Vec<f64>; 5]) {
     let surface = shape.surface();
     match original::full_domain_loop(&surface, &surface.domain(), &shape.resolved()) {
         Err(_) => (0.0, Default::default()),
-        Ok(outer) => (outer.area, columns(&outer)),
+        Ok(outer) => (outer.area, columns(&outer.uv, &outer.xyz)),
     }
 }
