@@ -1,5 +1,6 @@
-//! How often each branch of the cut Rust was met, and each limit of a record. A comparison that never meets a branch says
-//! nothing of it, so the run fails where one was not met.
+//! How often each branch of the cut Rust was met and on how many faces, and each limit of a
+//! record. A comparison that never meets a branch says nothing of it, so the run fails where one
+//! was not met.
 
 use std::sync::atomic::{AtomicU64, AtomicUsize, Ordering};
 
@@ -18,24 +19,34 @@ branches! {
     // full_domain_loop: the least and the greatest number of steps
     StepsAt3 StepsAt256
     // wrapped_region: rings
-    RingReversed RingShifted WrapsTwice
+    RingReversed RingShifted MinusZeroShifted WrapsTwice WrapsMore
+    FirstRingOfThree LaterRingOfThree
     // reseam
-    HoleBroughtOn HoleAcross NoGap NoPointPastCut RingRecut HoleStillAcross
+    HoleBroughtOn HoleAcross NoGap NoPointPastCut RingRecut OneRingRecut BothRingsRecut
+    HoleStillAcross
     // the start search
-    StartBackward StartOnSeam RingTooShortToTurn LaterStart NoStart NoStartBackward
-    LaterRingTurned LaterRingSlid
+    StartBackward StartOnSeam RingTooShortToTurn FirstStart LaterStart
+    NoStart NoStartForward NoStartBackward LaterRingTurned LaterRingSlid
     // order of the rings
-    RingsExchanged EqualMeans TorusSwapped TorusLifted
+    RingsExchanged EqualMeans TorusSwapped TorusLifted TorusSwappedNotLifted
     // close_strip
-    WallEmpty FirstWallFalls RepeatDropped TrailingRepeatDropped UnderThreeCorners
+    WallEmpty EqualFirstV FirstWallFalls RepeatDropped TrailingRepeatDropped UnderThreeCorners
+    // a negative zero in what the wrapped path gives
+    MinusZeroInU MinusZeroInV MinusZeroInPositions
     // limits of a record, and one past them
     SixteenLoops PointsAt512 PointsAt513 StripAt1024 StripAt1025
 }
 
-static MET: [AtomicU64; ALL.len()] = [const { AtomicU64::new(0) }; ALL.len()];
+type Counts = [AtomicU64; ALL.len()];
+
+/// On the face at hand.
+static HERE: Counts = [const { AtomicU64::new(0) }; ALL.len()];
+/// On all faces before it, and on how many of them at all.
+static TIMES: Counts = [const { AtomicU64::new(0) }; ALL.len()];
+static FACES: Counts = [const { AtomicU64::new(0) }; ALL.len()];
 
 pub fn met(branch: Branch) {
-    MET[branch as usize].fetch_add(1, Ordering::Relaxed);
+    HERE[branch as usize].fetch_add(1, Ordering::Relaxed);
 }
 
 /// Counts where the condition holds, and gives it back.
@@ -46,13 +57,39 @@ pub fn noted(branch: Branch, holds: bool) -> bool {
     holds
 }
 
+pub fn is_minus_zero(x: f64) -> bool {
+    x == 0.0 && x.is_sign_negative()
+}
+
+/// Forgets what was met since the last face.
+pub fn forget() {
+    for here in &HERE {
+        here.store(0, Ordering::Relaxed);
+    }
+}
+
+/// Ends a face or a record: notes what its counts say together, and adds them up.
+pub fn face_done() {
+    let here = |branch: Branch| HERE[branch as usize].load(Ordering::Relaxed);
+    noted(Branch::OneRingRecut, here(Branch::RingRecut) == 1);
+    noted(Branch::BothRingsRecut, here(Branch::RingRecut) == 2);
+    noted(Branch::NoStartForward, here(Branch::NoStart) > here(Branch::NoStartBackward));
+    noted(Branch::TorusSwappedNotLifted, here(Branch::TorusSwapped) > here(Branch::TorusLifted));
+    for i in 0..ALL.len() {
+        let times = HERE[i].swap(0, Ordering::Relaxed);
+        TIMES[i].fetch_add(times, Ordering::Relaxed);
+        FACES[i].fetch_add(u64::from(times > 0), Ordering::Relaxed);
+    }
+}
+
 /// Prints the counts. False where a branch was not met.
 pub fn all_met() -> bool {
     let mut all = true;
     for branch in ALL {
-        let times = MET[*branch as usize].load(Ordering::Relaxed);
-        println!("comparison: branch {branch:?}: met {times} times");
-        all &= times > 0;
+        let [times, faces] =
+            [&TIMES, &FACES].map(|counts| counts[*branch as usize].load(Ordering::Relaxed));
+        println!("comparison: branch {branch:?}: met on {faces} faces, {times} times");
+        all &= faces > 0;
     }
     all
 }

@@ -154,8 +154,11 @@ pub fn band(random: &mut Random) -> Face {
         shape.angle = shape.angle.max(0.05);
         shape.sag = shape.sag.max(shape.sizes[0].max(shape.sizes[1]) * 1e-3);
     }
-    let start = random.below(17) as f64 - 8.0;
-    let start = if random.one_in(2) { start * 0.5 * H } else { symmetric(random, 8.0) };
+    let start = match random.below(8) {
+        0 => 0.0,
+        1..4 => (random.below(17) as f64 - 8.0) * 0.5 * H,
+        _ => symmetric(random, 8.0),
+    };
     let style = random.below(4);
     let mut loops = Vec::new();
     for _ in 0..2 {
@@ -166,6 +169,13 @@ pub fn band(random: &mut Random) -> Face {
             _ => level,
         };
         loops.push(ring(random, start, level, style));
+    }
+    if random.one_in(16) {
+        // Both rings at one height: equal means, and walls without rungs.
+        let level = loops[0].uv[0].v;
+        for p in loops.iter_mut().flat_map(|l| &mut l.uv) {
+            *p = Vec2::new(p.u, level);
+        }
     }
     for hole in band_holes(random, start) {
         let at = random.below(loops.len() as u64 + 1) as usize;
@@ -197,6 +207,11 @@ fn ring(random: &mut Random, start: f64, level: f64, style: u64) -> Loop {
         .collect();
     uv[n - 1] = Vec2::new(from + (turns + missing) * TURN, uv[n - 1].v);
     roughen(random, &mut uv, style);
+    for p in &mut uv {
+        if p.u == 0.0 && random.one_in(2) {
+            *p = Vec2::new(-0.0, p.v);
+        }
+    }
     let mut xyz = positions(random, n);
     // A zero may differ in its sign: the two are equal as numbers.
     let first = xyz[0];

@@ -1,16 +1,17 @@
 //! Whether the generated faces and records meet every path and every branch of the cut Rust, and
 //! every refusal. Nothing is compared here.
 
-use crate::branches::all_met;
+use crate::branches::{Branch, all_met, face_done, forget, is_minus_zero, noted};
 use crate::calls::call;
-use crate::faces::{band, patch, whole};
+use crate::faces::{band, columns, patch, whole};
 use crate::judge::{Answer, judge};
-use crate::reference::{Path, close};
+use crate::reference::{Closing, Path, close};
 use crate::report::Run;
 
 const FACES: u64 = 200_000;
 
 pub fn meet_everything(run: &Run) {
+    forget();
     meet_paths(run);
     meet_refusals(run);
     if !all_met() {
@@ -32,11 +33,13 @@ fn meet_paths(run: &Run) {
         match close(&face) {
             Some(closing) => {
                 met[closing.path as usize] += 1;
+                note_zeros(&closing);
                 let holes = closing.holes.iter().map(|h| h.uv.len());
                 most = most.max(closing.outer.uv.len() + holes.sum::<usize>());
             }
             None => refused += 1,
         }
+        face_done();
     }
     let of = |path: Path| met[path as usize];
     println!(
@@ -52,6 +55,23 @@ fn meet_paths(run: &Run) {
     }
 }
 
+/// The negative zeros of a band and its holes, which differ from others in their bits alone.
+fn note_zeros(closing: &Closing) {
+    if closing.path != Path::Wrapped {
+        return;
+    }
+    let mut found = [false; 5];
+    for one in closing.holes.iter().chain([&closing.outer]) {
+        for (found, list) in found.iter_mut().zip(columns(&one.uv, &one.xyz)) {
+            *found |= list.into_iter().any(is_minus_zero);
+        }
+    }
+    let [u, v, x, y, z] = found;
+    noted(Branch::MinusZeroInU, u);
+    noted(Branch::MinusZeroInV, v);
+    noted(Branch::MinusZeroInPositions, x || y || z);
+}
+
 fn meet_refusals(run: &Run) {
     let mut random = run.random("calls");
     let mut met = [0u64; 13];
@@ -61,6 +81,7 @@ fn meet_refusals(run: &Run) {
             Answer::Closed(_) => met[0] += 1,
             Answer::Refused { number, .. } => met[number as usize] += 1,
         }
+        face_done();
     }
     println!(
         "comparison: of the generated records so many are closed, and refused by 1 to 12: {met:?}"

@@ -43,7 +43,7 @@ const KINDS: &str = "free-form kinds, which are left out";
 
 /// What stands before the cut text. Item 4 is put in here: the two functions that it speaks of are
 /// those of `items.rs`.
-pub const PREAMBLE: &str = "use crate::branches::{Branch, met, noted, strip_has};
+pub const PREAMBLE: &str = "use crate::branches::{Branch, is_minus_zero, met, noted, strip_has};
 use crate::items::{Order, Real, repeats};
 
 pub mod knots {
@@ -286,7 +286,8 @@ fn bands() -> Vec<Cut> {
             .edit(ITEM_5, Change::DropStatement("if uv.last().is_some_and("), 1)
             .count(
                 "let mut cut = 0",
-                "noted(Branch::FirstWallFalls, lower.uv[0].v > upper.uv[0].v);
+                "noted(Branch::EqualFirstV, lower.uv[0].v == upper.uv[0].v);
+                noted(Branch::FirstWallFalls, lower.uv[0].v > upper.uv[0].v);
                 strip_has(xyz.len());
                 let mut cut = 0",
             )
@@ -303,12 +304,23 @@ fn bands() -> Vec<Cut> {
             .replace(ITEM_3, "f64::min", "Order::least", 1)
             .count(
                 "r.travel = r.wrap.signum()",
-                "noted(Branch::WrapsTwice, r.wrap.abs() > 1); r.travel = r.wrap.signum()",
+                "noted(Branch::WrapsTwice, r.wrap.abs() == 2);
+                noted(Branch::WrapsMore, r.wrap.abs() > 2);
+                r.travel = r.wrap.signum()",
             )
             .count("r.uv.reverse()", "met(Branch::RingReversed); r.uv.reverse()")
             .count(
                 "for p in &mut r.uv",
-                "noted(Branch::RingShifted, shift != 0.0); for p in &mut r.uv",
+                "noted(Branch::RingShifted, shift != 0.0);
+                let zeros = r.uv.iter().any(|p| is_minus_zero(p.u));
+                noted(Branch::MinusZeroShifted, zeros && is_minus_zero(shift));
+                for p in &mut r.uv",
+            )
+            .count(
+                "reseam(&mut rings, &mut holes, period)",
+                "noted(Branch::FirstRingOfThree, rings[0].uv.len() == 3);
+                noted(Branch::LaterRingOfThree, rings[1].uv.len() == 3);
+                reseam(&mut rings, &mut holes, period)",
             )
             .count("if slide != 0.0", "if noted(Branch::LaterRingSlid, slide != 0.0)")
             .count(
@@ -323,7 +335,10 @@ fn bands() -> Vec<Cut> {
                 "if !stands_at_the_cut(&trial)",
                 "if !noted(Branch::StartOnSeam, stands_at_the_cut(&trial))",
             )
-            .count("rings = trial", "noted(Branch::LaterStart, k > 0); rings = trial")
+            .count(
+                "rings = trial",
+                "met(if k == 0 { Branch::FirstStart } else { Branch::LaterStart }); rings = trial",
+            )
             .count(
                 "if let Some(r) = rings.first_mut()",
                 "met(Branch::NoStart); if let Some(r) = rings.first_mut()",
