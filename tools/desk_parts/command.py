@@ -5,21 +5,35 @@ import os
 import sys
 from pathlib import Path
 
+from .answer import read_answer
 from .face import record_of
 from .face_file import read_face
 from .mistake import Mistake
+from .record_sizes import sizes_of
+from .words import in_words
 
-ABOUT = "Writes a face for the closer."
+ABOUT = "Writes a face for the closer, and reads its answer."
+
+STEPS = """\
+from a face to words:
+  desk pack face.toml | close > face.answer
+  desk show face.answer
+
+A mistake is told in one line, with status 1."""
 
 PACK = """\
 Reads a face written in TOML and writes its face record. Positions that are left out are worked
 out on the surface, with the station's own sine and cosine. What is out of its limits is told by
 line and key, and nothing is written."""
 
+SHOW = """\
+Says in words what close answered: the path, the loops, their corners and areas, the walls of a
+band; or of a refusal its number, its place and its meaning."""
+
 
 def parser():
     plain = argparse.RawDescriptionHelpFormatter
-    top = argparse.ArgumentParser("desk", description=ABOUT, formatter_class=plain)
+    top = argparse.ArgumentParser("desk", description=ABOUT, epilog=STEPS, formatter_class=plain)
     commands = top.add_subparsers(dest="command", required=True, metavar="COMMAND")
 
     def command(name, about, text, run):
@@ -30,6 +44,12 @@ def parser():
     one = command("pack", "write a face record", PACK, run_pack)
     one.add_argument("face", metavar="FACE.toml", help="the face file; - reads standard input")
     one.add_argument("-o", dest="out", metavar="FILE", help="where to write; else standard output")
+
+    one = command("show", "say in words what close answered", SHOW, run_show)
+    one.add_argument("file", nargs="?", default="-", help="the answer; else standard input")
+    one.add_argument("--face", metavar="RECORD", help="the face record that was given to close: it "
+                     "names the place of a refusal by loop and point")
+    one.add_argument("--corners", action="store_true", help="list every corner, all digits")
     return top
 
 
@@ -74,3 +94,9 @@ def run_pack(options):
     else:
         sys.stdout.buffer.write(record)
         sys.stdout.buffer.flush()
+
+
+def run_show(options):
+    sizes = sizes_of(read_bytes(options.face)) if options.face else None
+    answer = read_answer(read_bytes(options.file), called(options.file))
+    print("\n".join(in_words(answer, sizes, options.corners)), flush=True)
