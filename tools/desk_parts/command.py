@@ -5,19 +5,21 @@ import os
 import sys
 from pathlib import Path
 
-from .answer import read_answer
+from .answer import Refusal, read_answer
 from .face import record_of
 from .face_file import read_face
 from .mistake import Mistake
+from .picture import picture
 from .record_sizes import sizes_of
-from .words import in_words
+from .words import in_words, refusal_line
 
-ABOUT = "Writes a face for the closer, and reads its answer."
+ABOUT = "Writes a face for the closer, reads its answer, and draws it."
 
 STEPS = """\
-from a face to words:
+from a face to a picture:
   desk pack face.toml | close > face.answer
   desk show face.answer
+  desk draw face.answer -o face.svg
 
 A mistake is told in one line, with status 1."""
 
@@ -29,6 +31,10 @@ line and key, and nothing is written."""
 SHOW = """\
 Says in words what close answered: the path, the loops, their corners and areas, the walls of a
 band; or of a refusal its number, its place and its meaning."""
+
+DRAW = """\
+Draws a result as an SVG picture: the parameter plane with the outer loop, its holes and, on a
+band, the two walls of the seam; and beside it the positions, seen from above and aside."""
 
 
 def parser():
@@ -50,6 +56,10 @@ def parser():
     one.add_argument("--face", metavar="RECORD", help="the face record that was given to close: it "
                      "names the place of a refusal by loop and point")
     one.add_argument("--corners", action="store_true", help="list every corner, all digits")
+
+    one = command("draw", "draw a result", DRAW, run_draw)
+    one.add_argument("file", nargs="?", default="-", help="the answer; else standard input")
+    one.add_argument("-o", dest="out", metavar="OUT.svg", required=True, help="where to write")
     return top
 
 
@@ -100,3 +110,10 @@ def run_show(options):
     sizes = sizes_of(read_bytes(options.face)) if options.face else None
     answer = read_answer(read_bytes(options.file), called(options.file))
     print("\n".join(in_words(answer, sizes, options.corners)), flush=True)
+
+
+def run_draw(options):
+    answer = read_answer(read_bytes(options.file), called(options.file))
+    if isinstance(answer, Refusal):
+        raise Mistake(f"there is nothing to draw, the face was refused, {refusal_line(answer)}")
+    write_bytes(options.out, picture(answer, Path(called(options.file)).stem))
