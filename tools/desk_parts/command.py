@@ -10,6 +10,7 @@ from .face import record_of
 from .face_file import read_face
 from .mistake import Mistake
 from .picture import picture
+from .pipe import pipe
 from .record_sizes import sizes_of
 from .words import in_words, refusal_line
 
@@ -21,6 +22,7 @@ from a face to a picture:
   desk show face.answer
   desk draw face.answer -o face.svg
 
+Faces to begin with are in examples/, and examples/README.md says what a face file holds.
 A mistake is told in one line, with status 1."""
 
 PACK = """\
@@ -35,6 +37,11 @@ band; or of a refusal its number, its place and its meaning."""
 DRAW = """\
 Draws a result as an SVG picture: the parameter plane with the outer loop, its holes and, on a
 band, the two walls of the seam; and beside it the positions, seen from above and aside."""
+
+PIPE = """\
+Packs examples/pipe.toml, has close close it, shows and draws the answer, and counts its corners:
+where each comes from. The program is looked for under --close, then under the environment
+variable CLOSE, then in target/bin/close of the repository."""
 
 
 def parser():
@@ -60,6 +67,11 @@ def parser():
     one = command("draw", "draw a result", DRAW, run_draw)
     one.add_argument("file", nargs="?", default="-", help="the answer; else standard input")
     one.add_argument("-o", dest="out", metavar="OUT.svg", required=True, help="where to write")
+
+    one = command("pipe", "all three for a pipe, and a count of its corners", PIPE, run_pipe)
+    one.add_argument("--close", metavar="PROGRAM", help="the program close")
+    one.add_argument("-o", dest="out", metavar="OUT.svg", default="pipe.svg",
+                     help="where to draw it; else pipe.svg")
     return top
 
 
@@ -117,3 +129,9 @@ def run_draw(options):
     if isinstance(answer, Refusal):
         raise Mistake(f"there is nothing to draw, the face was refused, {refusal_line(answer)}")
     write_bytes(options.out, picture(answer, Path(called(options.file)).stem))
+
+
+def run_pipe(options):
+    lines, image = pipe(options.close or os.environ.get("CLOSE"))
+    write_bytes(options.out, image)
+    print("\n".join([*lines, "", f"drawn: {options.out}"]), flush=True)
