@@ -1,0 +1,4 @@
+pub mod Fronts
+pub mod StripColumns
+pub mod BandColumns
+pub mod Laws
