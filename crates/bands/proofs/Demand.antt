@@ -1,15 +1,15 @@
 -- Demand 3 holds of a band as it is defined.
-use Prim.Native.Nat.{ℕ, zero, suc, _+_, _<_}
+use Prim.Native.Nat.{ℕ, _+_, _<_}
 use mathlib.Core.Path.{_≡_, refl, sym, ap, _∙_, subst}
 use mathlib.Core.Bool.{Bool, true, false, cond, not, _||_, true≢false}
 use mathlib.Core.List.{List, [], _∷_, _++_, map, reverse, map-map, map-append}
-use mathlib.Core.Logic.{_⊎_, inl, inr}
+use mathlib.Core.Logic.{inl, inr}
 use native.Mathlib.Omega.{arith}
 use lib.Dec.{ltb, eqb}
 use lib.IntN.{ℤ, _+ℤ_, negℤ}
 use lib.Ieee.{Float}
 use lib.ListN.{length, length-map}
-use Rattle.numbers.specs.Rounded.{_⊕_, _⊖_}
+use Rattle.numbers.specs.Rounded.{_⊕_}
 use Rattle.lists.proofs.Maps.{map-reverse}
 use Rattle.loops.specs.Steps.{PartialEquivalence, net}
 use Rattle.loops.specs.Repeats.{dropRepeats, keep}
@@ -21,14 +21,14 @@ use Rattle.loops.proofs.RepeatsLaw.{net-dropRepeats}
 use Rattle.loops.proofs.Projections.{map-dropRepeats}
 use Rattle.bands.specs.Corners.{Corner, Corners, us, positions, moveU, moveV}
 use Rattle.rings.specs.Choices.{firstOf, nearest}
-use Rattle.rings.specs.Turns.{unlessZero, beginRingAt, turnedOnto, alignAt}
+use Rattle.rings.specs.Turns.{beginRingAt, turnedOnto, alignAt}
 use Rattle.rings.specs.Starts.{start}
 use Rattle.rings.proofs.Carried.{map-unchanged, unless-unchanged, map-cond, map-unlessZero, map-beginRingAt, map-alignAt}
 use Rattle.bands.specs.Given.{Loop, Given}
 use Rattle.bands.specs.Rings.{Face, rising, shifted, laid, raised, seam, onto, onStrip, acrossSeam, gapOf, cutAnew, hasStrip, hasGap, reseam, alignCuts, slideToCut, trial, started}
 use Rattle.bands.specs.Strip.{Setting, heights, wall, strip}
 use Rattle.bands.specs.Band.{pick, pickLoop, joined, lowerFirst, lower, upper, lowerRing, upperRing, stripOf, outer, holes}
-use Rattle.bands.specs.Demand.{ring, Turn, Demand3}
+use Rattle.bands.specs.Demand.{ring, Turn, Whole, Demand3}
 use Rattle.bands.proofs.Lengths.{length-first, length-later}
 
 module _ {A : Type 0} where
@@ -231,14 +231,7 @@ head-tail [] h = absurd (omega arith)
 head-tail (x ∷ rest) h = (x, (rest, refl))
 
 module _ {A : Type 0} (S : Setting A) (P : PartialEquivalence (S .same)) (given : Given A) where
-  -- 01, refusals 4 and 8: the loops have points, and the last repeats the first
-  pub record Whole : Type 0 where
-    pub some-first : 0 < length (given .first .corners)
-    pub some-later : 0 < length (given .later .corners)
-    pub first-meets : endsMeet (S .same) (positions (given .first .corners)) ≡ true
-    pub later-meets : endsMeet (S .same) (positions (given .later .corners)) ≡ true
-
-  meets : Whole → (t : Bool) → endsMeet (S .same) (positions (pickLoop t given .corners)) ≡ true
+  meets : Whole S given → (t : Bool) → endsMeet (S .same) (positions (pickLoop t given .corners)) ≡ true
   meets w true = w .first-meets
   meets w false = w .later-meets
 
@@ -249,7 +242,7 @@ module _ {A : Type 0} (S : Setting A) (P : PartialEquivalence (S .same)) (given 
   turned-steps a b l ys h t = net-turn (S .same) P a b (ring l) ys t (ring-meets (S .same) P l h)
 
   -- the counts of a strip whose rings are turns of those given
-  strip-steps : Whole → (a b : A) (l : Corner A) (L : Corners A) (u : Corner A) (U : Corners A)
+  strip-steps : Whole S given → (a b : A) (l : Corner A) (L : Corners A) (u : Corner A) (U : Corners A)
       → Turn (ring (lower S given)) (positions (l ∷ L)) → Turn (ring (upper S given)) (positions (u ∷ U))
       → steps a b (positions (strip S (l ∷ L) (u ∷ U))) ≡ steps a b (ring (lower S given)) +ℤ steps a b (reverse (ring (upper S given)))
   strip-steps w a b l L u U low up =
@@ -268,7 +261,7 @@ module _ {A : Type 0} (S : Setting A) (P : PartialEquivalence (S .same)) (given 
   unfolding stripOf
   stripped l L u U le ue = λ i. positions (strip S (le i) (ue i))
 
-  pub demand3 : Whole → Demand3 S given (positions (outer S given)) (map positions (holes S given))
+  pub demand3 : Whole S given → Demand3 S given (positions (outer S given)) (map positions (holes S given))
   demand3 w =
       claim (head-tail (lowerRing S given) (some-lower S given (w .some-first) (w .some-later)))
       (head-tail (upperRing S given) (some-upper S given (w .some-first) (w .some-later)))

@@ -1,13 +1,14 @@
 -- Demand 3, of a band as it is defined: the words of 01, "Bands", last paragraph.
-use Prim.Native.Nat.{ℕ}
+use Prim.Native.Nat.{ℕ, _<_}
 use mathlib.Core.Path.{_≡_}
 use mathlib.Core.Logic.{_⊎_}
-use mathlib.Core.Bool.{Bool, true, false, cond}
+use mathlib.Core.Bool.{true, false, cond}
 use mathlib.Core.List.{List, _∷_, _++_, map, reverse}
 use lib.IntN.{_+ℤ_}
+use lib.ListN.{length}
 use Rattle.loops.specs.Steps.{net}
 use Rattle.loops.specs.Repeats.{dropRepeats}
-use Rattle.loops.specs.Rings.{turned, unchanged}
+use Rattle.loops.specs.Rings.{turned, unchanged, endsMeet}
 use Rattle.bands.specs.Corners.{Corner, Corners, positions}
 use Rattle.bands.specs.Given.{Loop, Given}
 use Rattle.bands.specs.Rings.{laid, acrossSeam}
@@ -23,6 +24,13 @@ module _ {A : Type 0} where
   -- ys is the ring xs, as it is or begun at another of its points
   abbrev pub Turn : List A → List A → Type 0
   Turn xs ys = (ys ≡ xs) ⊎ ((k : ℕ) × (ys ≡ turned unchanged k xs))
+
+-- 01, refusals 4 and 8: both rings have points, and the last repeats the first
+pub record Whole {A : Type 0} (S : Setting A) (given : Given A) : Type 0 where
+  pub some-first : 0 < length (given .first .corners)
+  pub some-later : 0 < length (given .later .corners)
+  pub first-meets : endsMeet (S .same) (positions (given .first .corners)) ≡ true
+  pub later-meets : endsMeet (S .same) (positions (given .later .corners)) ≡ true
 
 -- the claim, of the positions of the outer loop and of the holes
 pub record Demand3 {A : Type 0} (S : Setting A) (given : Given A) (outer : List A) (holes : List (List A)) : Type 0 where
