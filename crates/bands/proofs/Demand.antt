@@ -137,7 +137,7 @@ module _ {A : Type 0} (period : Float) where
 
 module _ {A : Type 0} (S : Setting A) where
   abbrev wallOf : Corner A → Corner A → List A
-  wallOf l u = map (S .pointAt (l .u)) (heights S (l .v) (u .v))
+  wallOf l u = map (S .pointAt (l .u)) (heights (S .rungs) (S .steps) (l .v) (u .v))
 
   wall-is : (begin u : Float) (vs : List Float) → positions (wall S begin u vs) ≡ map (S .pointAt begin) vs
   wall-is begin u vs = map-map at (λ v. record { u = u; v = v; at = S .pointAt begin v }) vs
@@ -154,7 +154,7 @@ module _ {A : Type 0} (S : Setting A) where
       end = l .u ⊕ S .period
 
       up : List Float
-      up = heights S (l .v) (u .v)
+      up = heights (S .rungs) (S .steps) (l .v) (u .v)
 
       corner : Float → Float → A → Corner A
       corner u v a = record { u = u; v = v; at = a }

@@ -1,4 +1,5 @@
 -- Corners in parallel lists, one for each parameter and each coordinate, and what a band takes from a surface.
+use Prim.Native.Nat.{ℕ}
 use mathlib.Core.Path.{_≡_}
 use mathlib.Core.Bool.{Bool}
 use mathlib.Core.List.{List, map}
@@ -13,7 +14,7 @@ use Rattle.surfaces.specs.Points.{pointOf}
 use Rattle.surfaces.specs.Rungs.{rungs}
 use Rattle.surfaces.specs.Steps.{vStepsOf}
 use Rattle.bands.specs.Corners.{Corner, Corners, us, vs}
-use Rattle.bands.specs.Strip.{Setting}
+use Rattle.bands.specs.Strip.{Setting, ladder, heights}
 
 abbrev pub xs : Corners Vec3 → List Float
 xs r = map (λ (c : Corner Vec3). c .at .x) r
@@ -32,6 +33,16 @@ pub record Columns (r : Corners Vec3) (u v x y z : List Float) : Type 0 where
   pub y-is : y ≡ ys r
   pub z-is : z ≡ zs r
 
+-- on a surface: how many steps lie between two v, the ladder between them, and the v of a wall
+abbrev pub stepsOn : Surface → Resolved → Float → Float → ℕ
+stepsOn surface options lo hi = vStepsOf surface lo hi options
+
+abbrev pub ladderOn : Surface → Resolved → Float → Float → List Float
+ladderOn surface options = ladder rungs (stepsOn surface options)
+
+abbrev pub heightsOn : Surface → Resolved → Float → Float → List Float
+heightsOn surface options = heights rungs (stepsOn surface options)
+
 -- a band on a surface: period is that of u
 abbrev pub settingOf : Frame → Surface → Resolved → Float → Bool → Setting Vec3
 settingOf frame surface options period sense = record {
@@ -41,5 +52,5 @@ settingOf frame surface options period sense = record {
   same = same;
   pointAt = pointOf frame surface;
   rungs = rungs;
-  steps = λ lo hi. vStepsOf surface lo hi options;
+  steps = stepsOn surface options;
 }

@@ -43,7 +43,7 @@ pub record Demand3 {A : Type 0} (S : Setting A) (given : Given A) (outer : List 
   pub upper-is : upperRing S given ≡ u ∷ U
   -- "A wall is a stretch of the strip between the two rings, the surface points at the inner rungs named above", at the lower ring's first u
   pub W : List A
-  pub wall-is : W ≡ map (S .pointAt (l .u)) (heights S (l .v) (u .v))
+  pub wall-is : W ≡ map (S .pointAt (l .u)) (heights (S .rungs) (S .steps) (l .v) (u .v))
   -- "The second wall is the first read backward, to the bit."
   pub strip-is : positions (stripOf S given) ≡ positions (l ∷ L) ++ (l .at ∷ W) ++ (u .at ∷ reverse (positions (u ∷ U))) ++ reverse W
   pub outer-is : outer ≡ dropRepeats (S .same) (positions (stripOf S given))

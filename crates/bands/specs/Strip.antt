@@ -20,15 +20,17 @@ pub record Setting (A : Type 0) : Type 0 where
   pub rungs : Float → Float → ℕ → List Float
   pub steps : Float → Float → ℕ
 
-module _ {A : Type 0} (S : Setting A) where
+-- the v of a wall, where `rungs` is the ladder of n steps from one v up to another, and `steps` how many lie between two v
+module _ (rungs : Float → Float → ℕ → List Float) (steps : Float → Float → ℕ) where
   -- "the inner rungs of one `merge_even`, with the steps of `v_steps`, from the lesser to the greater of the two rings' first v"
   unfoldable pub ladder : Float → Float → List Float
-  ladder a b = let lo = minOf a b in let hi = maxOf a b in inner (S .rungs lo hi (S .steps lo hi))
+  ladder a b = let lo = minOf a b in let hi = maxOf a b in inner (rungs lo hi (steps lo hi))
 
   -- the ladder as the first wall reads it, from the lower ring's first v to the upper's
   unfoldable pub heights : Float → Float → List Float
   heights lower upper = cond (le lower upper) (ladder lower upper) (reverse (ladder lower upper))
 
+module _ {A : Type 0} (S : Setting A) where
   -- a wall at u; "positions are taken at the lower ring's first u", begin
   abbrev pub wall : Float → Float → List Float → Corners A
   wall begin u vs = map (λ v. record { u = u; v = v; at = S .pointAt begin v }) vs
@@ -41,7 +43,7 @@ module _ {A : Type 0} (S : Setting A) where
   strip (l ∷ lower) (u ∷ upper) =
       let begin = l .u in
       let end = l .u ⊕ S .period in
-      let up = heights (l .v) (u .v) in
+      let up = heights (S .rungs) (S .steps) (l .v) (u .v) in
       let corner₁ : Corner A = record { u = end; v = l .v; at = l .at } in
       let corner₂ : Corner A = record { u = end; v = u .v; at = u .at } in
       (l ∷ lower) ++ (corner₁ ∷ wall begin end up) ++ (corner₂ ∷ reverse (u ∷ upper)) ++ reverse (wall begin begin up)

@@ -14,7 +14,8 @@ use Rattle.surfaces.specs.Points.{pointOf}
 use Rattle.lists.specs.Placed.{placed}
 use Rattle.lists.proofs.Placed.{front-placed}
 use Rattle.loops.specs.Part.{partOf}
-use Rattle.strip.specs.Walls.{heights, xsAt, ysAt, zsAt}
+use Rattle.strip.specs.Walls.{xsAt, ysAt, zsAt}
+use Rattle.bands.specs.Columns.{heightsOn}
 use Rattle.strip.specs.Layout.{stripOf}
 use Rattle.rings.specs.Choices.{firstOf}
 use Rattle.numbers.specs.Rounded.{_⊕_}
@@ -50,7 +51,7 @@ module _ (d e lower upper : List Float) where
 
 module _ (frame : Frame) (surface : Surface) (options : Resolved) (u lower upper : Float) (n : ℕ) (wv₀ wx₀ wy₀ wz₀ : List Float) where
   abbrev up : List Float
-  up = heights surface options lower upper
+  up = heightsOn surface options lower upper
 
   -- as `raise_wall` asks: n heights, and room for them
   abbrev Ready : Type 0

@@ -16,9 +16,8 @@ use Rattle.loops.specs.Area.{areaOf}
 use Rattle.loops.specs.Part.{partOf}
 use Rattle.rings.specs.Choices.{firstOf}
 use Rattle.strip.specs.Layout.{countOf, capped}
-use Rattle.strip.specs.Walls.{heights}
 use Rattle.bands.specs.Corners.{Corner, Corners}
-use Rattle.bands.specs.Columns.{Columns, settingOf}
+use Rattle.bands.specs.Columns.{Columns, heightsOn, settingOf}
 use Rattle.bands.specs.Strip.{Setting, strip}
 use Rattle.closing.specs.declared.Closing.{Closing}
 use Rattle.closing.specs.declared.Closing.the-variants.{Closed, TooMany}
@@ -96,12 +95,12 @@ not-both n room h k = absurd (omega arith)
 pub record Counted (surface : Surface) (options : Resolved) (lu lv uu uv : List Float) (low high : Float) (inner count : ℕ) : Type 0 where
   pub low-is : low ≡ firstOf lv
   pub high-is : high ≡ firstOf uv
-  pub inner-is : inner ≡ length (heights surface options low high)
+  pub inner-is : inner ≡ length (heightsOn surface options low high)
   pub count-is : count ≡ capped (countOf (length lu) (length uu) inner)
 
 module _ (surface : Surface) (options : Resolved) (lu lv uu uv : List Float) (low high : Float) (inner count : ℕ) (counted : Counted surface options lu lv uu uv low high inner count) where
-  inner-heights : inner ≡ length (heights surface options (firstOf lv) (firstOf uv))
-  inner-heights = counted .inner-is ∙ (λ i. length (heights surface options (counted .low-is i) (counted .high-is i)))
+  inner-heights : inner ≡ length (heightsOn surface options (firstOf lv) (firstOf uv))
+  inner-heights = counted .inner-is ∙ (λ i. length (heightsOn surface options (counted .low-is i) (counted .high-is i)))
 
   module _ (wv wx wy wz u₀ v₀ x₀ y₀ z₀ : List Float) (places : List ℕ) (r : ℕ) (room : r ≡ roomIn wv wx wy wz u₀ v₀ x₀ y₀ z₀ places) (fits : count ≤ r) (small : length wv * 8 < 2 ^ 63) where
     all : Fits count wv wx wy wz u₀ v₀ x₀ y₀ z₀ places
@@ -111,7 +110,7 @@ module _ (surface : Surface) (options : Resolved) (lu lv uu uv : List Float) (lo
     exact : count ≡ countOf (length lu) (length uu) inner
     exact = uncapped count (countOf (length lu) (length uu) inner) (length wv) (counted .count-is) (all .in-wv) small
 
-    pub ready : (inner ≡ length (heights surface options low high)) × ((inner ≤ length wv) × ((inner ≤ length wx) × ((inner ≤ length wy) × (inner ≤ length wz))))
+    pub ready : (inner ≡ length (heightsOn surface options low high)) × ((inner ≤ length wv) × ((inner ≤ length wx) × ((inner ≤ length wy) × (inner ≤ length wz))))
     ready =
         let shorter : (n : ℕ) → count ≤ n → inner ≤ n = wall-shorter (length lu) (length uu) inner count exact in
         (counted .inner-is, (shorter _ (all .in-wv), (shorter _ (all .in-wx), (shorter _ (all .in-wy), shorter _ (all .in-wz)))))
@@ -121,7 +120,7 @@ module _ (frame : Frame) (surface : Surface) (options : Resolved) (period : Floa
   abbrev S : Setting Vec3
   S = settingOf frame surface options period sense
 
-  walls : inner ≡ length (heights surface options (firstOf lv) (firstOf uv))
+  walls : inner ≡ length (heightsOn surface options (firstOf lv) (firstOf uv))
   walls = inner-heights surface options lu lv uu uv low high inner count counted
 
   corners : length (strip S lower upper) ≡ countOf (length lu) (length uu) inner

@@ -14,11 +14,12 @@ use Rattle.surfaces.specs.declared.surface.Surface.{Surface}
 use Rattle.lists.proofs.Maps.{map-reverse}
 use Rattle.loops.specs.Part.{partOf}
 use Rattle.rings.specs.Choices.{firstOf}
+use Rattle.rings.proofs.Carried.{map-unchanged}
 use Rattle.strip.specs.Layout.{stripOf, countOf}
-use Rattle.strip.specs.Walls.{ladder, heights, xsAt, ysAt, zsAt}
+use Rattle.strip.specs.Walls.{xsAt, ysAt, zsAt}
 use Rattle.strip.proofs.layout.Laws.{length-strip}
 use Rattle.bands.specs.Corners.{Corner, Corners, us, vs}
-use Rattle.bands.specs.Columns.{Columns, xs, ys, zs, settingOf}
+use Rattle.bands.specs.Columns.{Columns, xs, ys, zs, heightsOn, settingOf}
 use Rattle.bands.specs.Strip as bands
 use Rattle.closing.specs.Closing.{Rings}
 use Rattle.closing.specs.Steps.{Raised, columnOf, columnOfU}
@@ -32,18 +33,9 @@ map-same : {A B : Type 0} (x : B) (l : List A) → map (λ (a : A). x) l ≡ rep
 map-same x [] = refl
 map-same x (a ∷ l) = ap (λ (r : List _). x ∷ r) (map-same x l)
 
-map-self : {A : Type 0} (l : List A) → map (λ (a : A). a) l ≡ l
-map-self [] = refl
-map-self (a ∷ l) = ap (λ (r : List _). a ∷ r) (map-self l)
-
 module _ (frame : Frame) (surface : Surface) (options : Resolved) (period : Float) (sense : Bool) where
   abbrev S : bands.Setting Vec3
   S = settingOf frame surface options period sense
-
-  -- one ladder
-  heights-are : (a b : Float) → bands.heights S a b ≡ heights surface options a b
-  unfolding bands.heights bands.ladder heights ladder
-  heights-are a b = refl
 
   module _ (l : Corner Vec3) (L : Corners Vec3) (u : Corner Vec3) (U : Corners Vec3) where
     abbrev lower : Corners Vec3
@@ -56,7 +48,7 @@ module _ (frame : Frame) (surface : Surface) (options : Resolved) (period : Floa
     end = l .u ⊕ period
 
     abbrev up : List Float
-    up = heights surface options (l .v) (u .v)
+    up = heightsOn surface options (l .v) (u .v)
 
     abbrev corner : Float → Float → Vec3 → Corner Vec3
     corner a b p = record { u = a; v = b; at = p }
@@ -66,7 +58,7 @@ module _ (frame : Frame) (surface : Surface) (options : Resolved) (period : Floa
     wallAt a = bands.wall S (l .u) a up
 
     strip-is : bands.strip S lower upper ≡ stripOf lower (corner end (l .v) (l .at)) (wallAt end) (corner end (u .v) (u .at)) upper (wallAt (l .u))
-    unfolding bands.strip stripOf bands.heights bands.ladder heights ladder
+    unfolding bands.strip stripOf
     strip-is = refl
 
     part-is : (g : Corner Vec3 → Float) → map g (bands.strip S lower upper) ≡ stripOf (map g lower) (g (corner end (l .v) (l .at))) (map g (wallAt end)) (g (corner end (u .v) (u .at))) (map g upper) (map g (wallAt (l .u)))
@@ -88,7 +80,7 @@ module _ (frame : Frame) (surface : Surface) (options : Resolved) (period : Floa
     vs-strip = part-is (λ c. c .v) ∙ (λ i. stripOf (vs lower) (l .v) (each end i) (u .v) (vs upper) (each (l .u) i))
       where
         each : (a : Float) → vs (wallAt a) ≡ up
-        each a = along (λ c. c .v) a ∙ map-self up
+        each a = along (λ c. c .v) a ∙ map-unchanged up
 
     xs-strip : xs (bands.strip S lower upper) ≡ columnOf (xs lower) (xsAt frame surface (l .u) up) (xs upper)
     unfolding columnOf xsAt
@@ -110,7 +102,7 @@ module _ (frame : Frame) (surface : Surface) (options : Resolved) (period : Floa
 
   -- ---- of two rings in lists
 
-  module _ (lu lv lx ly lz uu uv ux uy uz : List Float) (n : ℕ) (inner : n ≡ length (heights surface options (firstOf lv) (firstOf uv))) where
+  module _ (lu lv lx ly lz uu uv ux uy uz : List Float) (n : ℕ) (inner : n ≡ length (heightsOn surface options (firstOf lv) (firstOf uv))) where
     pub count-strip : (lower upper : Corners Vec3) → Rings lower upper lu lv lx ly lz uu uv ux uy uz → length (bands.strip S lower upper) ≡ countOf (length lu) (length uu) n
     count-strip [] upper rings = let some = rings .some-lower in absurd (omega arith)
     count-strip (l ∷ L) [] rings = let some = rings .some-upper in absurd (omega arith)
@@ -119,7 +111,7 @@ module _ (frame : Frame) (surface : Surface) (options : Resolved) (period : Floa
         let b = rings .upper-is in
         let long-lower : length lu ≡ length (l ∷ L) = ap length (a .u-is) ∙ length-map (l ∷ L) (λ c. c .u) in
         let long-upper : length uu ≡ length (u ∷ U) = ap length (b .u-is) ∙ length-map (u ∷ U) (λ c. c .u) in
-        corners-in-strip l L u U ∙ sym (λ i. countOf (long-lower i) (long-upper i) ((inner ∙ (λ j. length (heights surface options (firstOf (a .v-is j)) (firstOf (b .v-is j))))) i))
+        corners-in-strip l L u U ∙ sym (λ i. countOf (long-lower i) (long-upper i) ((inner ∙ (λ j. length (heightsOn surface options (firstOf (a .v-is j)) (firstOf (b .v-is j))))) i))
 
     pub strip-columns : (lower upper : Corners Vec3) → Rings lower upper lu lv lx ly lz uu uv ux uy uz
         → (wv wx wy wz : List Float) → Raised frame surface options (firstOf lu) (firstOf lv) (firstOf uv) n wv wx wy wz
@@ -129,7 +121,7 @@ module _ (frame : Frame) (surface : Surface) (options : Resolved) (period : Floa
     strip-columns (l ∷ L) (u ∷ U) rings wv wx wy wz w =
         let a = rings .lower-is in
         let b = rings .upper-is in
-        let rise : heights surface options (firstOf lv) (firstOf uv) ≡ up l L u U = λ i. heights surface options (firstOf (a .v-is i)) (firstOf (b .v-is i)) in
+        let rise : heightsOn surface options (firstOf lv) (firstOf uv) ≡ up l L u U = λ i. heightsOn surface options (firstOf (a .v-is i)) (firstOf (b .v-is i)) in
         record {
           u-is = (λ i. columnOfU period ((inner ∙ ap length rise) i) (a .u-is i) (b .u-is i)) ∙ sym (us-strip l L u U);
           v-is = (λ i. columnOf (a .v-is i) ((w .v-is ∙ rise) i) (b .v-is i)) ∙ sym (vs-strip l L u U);

@@ -13,16 +13,17 @@ use Rattle.loops.specs.Part.{partOf}
 use Rattle.repeats.specs.Corners.{kept, movedUp}
 use Rattle.rings.specs.Choices.{firstOf}
 use Rattle.strip.specs.Layout.{stripOf}
-use Rattle.strip.specs.Walls.{heights, xsAt, ysAt, zsAt}
+use Rattle.strip.specs.Walls.{xsAt, ysAt, zsAt}
+use Rattle.bands.specs.Columns.{heightsOn}
 use Rattle.closing.specs.declared.Closing.{Closing}
 use Rattle.closing.specs.declared.Closing.the-variants.{Closed}
 
 -- a wall of n corners in the front of four lists: its heights, and the surface points there at u
 pub record Raised (frame : Frame) (surface : Surface) (options : Resolved) (u lower upper : Float) (n : ℕ) (wv wx wy wz : List Float) : Type 0 where
-  pub v-is : partOf 0 n wv ≡ heights surface options lower upper
-  pub x-is : partOf 0 n wx ≡ xsAt frame surface u (heights surface options lower upper)
-  pub y-is : partOf 0 n wy ≡ ysAt frame surface u (heights surface options lower upper)
-  pub z-is : partOf 0 n wz ≡ zsAt frame surface u (heights surface options lower upper)
+  pub v-is : partOf 0 n wv ≡ heightsOn surface options lower upper
+  pub x-is : partOf 0 n wx ≡ xsAt frame surface u (heightsOn surface options lower upper)
+  pub y-is : partOf 0 n wy ≡ ysAt frame surface u (heightsOn surface options lower upper)
+  pub z-is : partOf 0 n wz ≡ zsAt frame surface u (heightsOn surface options lower upper)
 
 -- v or a coordinate of the strip: each ring's first stands again where the wall begins or ends
 unfoldable pub columnOf : List Float → List Float → List Float → List Float

@@ -7,9 +7,8 @@ ghost use lib.ListN.{length};
 ghost use Rattle.numbers.specs.declared.math.Vec3.{Vec3};
 ghost use Rattle.lists.specs.Placed.{placed};
 ghost use Rattle.loops.specs.Part.{partOf};
-ghost use Rattle.strip.specs.Walls.{heights};
 ghost use Rattle.bands.specs.Corners.{Corners};
-ghost use Rattle.bands.specs.Columns.{settingOf};
+ghost use Rattle.bands.specs.Columns.{heightsOn, settingOf};
 ghost use Rattle.closing.specs.Closing.{Rings, Closes, roomIn};
 ghost use Rattle.closing.specs.Steps.{Raised, columnOf, columnOfU, Dropped};
 use loops::area::signed_area;
@@ -69,7 +68,7 @@ fn raise_wall(
     wy: &mut [f64],
     wz: &mut [f64],
 )
-    requires { ⌜ (inner ≡ length (heights surface options lower upper)) × ((inner ≤ length (now wv)) × ((inner ≤ length (now wx)) × ((inner ≤ length (now wy)) × (inner ≤ length (now wz))))) ⌝ }
+    requires { ⌜ (inner ≡ length (heightsOn surface options lower upper)) × ((inner ≤ length (now wv)) × ((inner ≤ length (now wx)) × ((inner ≤ length (now wy)) × (inner ≤ length (now wz))))) ⌝ }
     ensures { λ _. ⌜ Raised frame surface options u lower upper inner (now (wv .exit)) (now (wx .exit)) (now (wy .exit)) (now (wz .exit)) ⌝ }
 {
     heights_into(wv, surface, options, lower, upper);

@@ -1,7 +1,7 @@
 // Where the parts of a strip stand in a slice.
 ghost use mathlib.Core.Path.{_≡_};
 ghost use Prim.Native.Nat.{_+_};
-ghost use lib.ListN.{length, replicate};
+ghost use lib.ListN.{replicate};
 ghost use Rattle.lists.specs.Placed.{placed};
 ghost use Rattle.strip.specs.Layout.{stripOf, countOf, capped};
 use slices::copy_into;

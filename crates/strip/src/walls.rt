@@ -3,7 +3,8 @@ ghost use mathlib.Core.Path.{_≡_};
 ghost use lib.ListN.{length};
 ghost use lib.Seq.{sets};
 ghost use Rattle.lists.specs.Placed.{placed};
-ghost use Rattle.strip.specs.Walls.{ladder, heights, xsAt, ysAt, zsAt};
+ghost use Rattle.bands.specs.Columns.{ladderOn, heightsOn};
+ghost use Rattle.strip.specs.Walls.{xsAt, ysAt, zsAt};
 use numbers::math::Frame;
 use numbers::math::Vec2;
 use numbers::order::max;
@@ -18,7 +19,7 @@ use surfaces::surface::Surface;
 
 // How many corners a wall has between the two rings.
 pub fn wall_count(surface: Surface, options: Resolved, lower: f64, upper: f64) -> usize
-    ensures { λ r. ⌜ r ≡ length (heights surface options lower upper) ⌝ }
+    ensures { λ r. ⌜ r ≡ length (heightsOn surface options lower upper) ⌝ }
 {
     let lo = min(lower, upper);
     let hi = max(lower, upper);
@@ -27,7 +28,7 @@ pub fn wall_count(surface: Surface, options: Resolved, lower: f64, upper: f64) -
 
 // The rungs from the lesser to the greater v, as many as there is room for.
 fn ladder_into(dst: &mut [f64], surface: Surface, options: Resolved, a: f64, b: f64)
-    ensures { λ _. ⌜ now (dst .exit) ≡ sets (now (dst .entry)) 0 (ladder surface options a b) ⌝ }
+    ensures { λ _. ⌜ now (dst .exit) ≡ sets (now (dst .entry)) 0 (ladderOn surface options a b) ⌝ }
 {
     let lo = min(a, b);
     let hi = max(a, b);
@@ -38,7 +39,7 @@ fn ladder_into(dst: &mut [f64], surface: Surface, options: Resolved, a: f64, b: 
 // is written. They are always counted from the lesser v, so that a wall read downward has the same
 // heights to the bit.
 pub fn heights_into(dst: &mut [f64], surface: Surface, options: Resolved, lower: f64, upper: f64)
-    ensures { λ _. ⌜ now (dst .exit) ≡ placed 0 (heights surface options lower upper) (now (dst .entry)) ⌝ }
+    ensures { λ _. ⌜ now (dst .exit) ≡ placed 0 (heightsOn surface options lower upper) (now (dst .entry)) ⌝ }
 {
     let n = wall_count(surface, options, lower, upper);
     if dst.len() < n {

@@ -3,7 +3,7 @@ use Prim.Native.Nat.{ℕ, suc, _+_, _≤_, _<_}
 use mathlib.Core.Path.{_≡_, refl, sym, ap, _∙_}
 use mathlib.Core.Bool.{Bool, true, false, cond}
 use mathlib.Core.List.{List, [], _∷_, _++_, map, reverse}
-use native.Mathlib.Nat.{add-zero, add-suc, suc-add, zero-add}
+use native.Mathlib.Nat.{add-zero}
 use native.Mathlib.Numerals.{add-one}
 use native.Mathlib.Omega.{arith}
 use lib.Ieee.{Float, nan, le}
@@ -20,7 +20,9 @@ use Rattle.surfaces.specs.Steps.{vStepsOf}
 use Rattle.lists.specs.Placed.{placed}
 use Rattle.lists.proofs.Elements.{getD-map}
 use Rattle.lists.proofs.Placed.{placed-fits, placed-short}
-use Rattle.strip.specs.Walls.{ladder, heights, xsAt, ysAt, zsAt}
+use Rattle.bands.specs.Columns.{ladderOn, heightsOn}
+use Rattle.bands.specs.Strip.{ladder, heights}
+use Rattle.strip.specs.Walls.{xsAt, ysAt, zsAt}
 
 -- ---- heights
 
@@ -36,46 +38,46 @@ placed-front w d n e h =
     placed-fits 0 w d (omega arith) ∙ ap (λ (k : ℕ). w ++ drop k d) place
 
 module _ (s : Surface) (o : Resolved) (a b : Float) where
-  pub length-heights : length (heights s o a b) ≡ length (ladder s o a b)
+  pub length-heights : length (heightsOn s o a b) ≡ length (ladderOn s o a b)
   unfolding heights
   length-heights = by-order (le a b)
     where
-      by-order : (t : Bool) → length (cond t (ladder s o a b) (reverse (ladder s o a b))) ≡ length (ladder s o a b)
+      by-order : (t : Bool) → length (cond t (ladderOn s o a b) (reverse (ladderOn s o a b))) ≡ length (ladderOn s o a b)
       by-order true = refl
-      by-order false = length-reverse (ladder s o a b)
+      by-order false = length-reverse (ladderOn s o a b)
 
   module _ (lo hi : Float) (n : ℕ) (least : lo ≡ minOf a b) (most : hi ≡ maxOf a b) (steps : n ≡ vStepsOf s lo hi o) where
-    ladder-is : inner (rungs lo hi n) ≡ ladder s o a b
+    ladder-is : inner (rungs lo hi n) ≡ ladderOn s o a b
     unfolding ladder
     ladder-is = ap (λ (k : ℕ). inner (rungs lo hi k)) steps ∙ (λ i. inner (rungs (least i) (most i) (vStepsOf s (least i) (most i) o)))
 
-    pub count-is : (k : ℕ) → k ≡ length (inner (rungs lo hi n)) → k ≡ length (heights s o a b)
+    pub count-is : (k : ℕ) → k ≡ length (inner (rungs lo hi n)) → k ≡ length (heightsOn s o a b)
     count-is k e = e ∙ ap length ladder-is ∙ sym length-heights
 
-    pub ladder-written : (d e : List Float) → e ≡ sets d 0 (inner (rungs lo hi n)) → e ≡ sets d 0 (ladder s o a b)
+    pub ladder-written : (d e : List Float) → e ≡ sets d 0 (inner (rungs lo hi n)) → e ≡ sets d 0 (ladderOn s o a b)
     ladder-written d e h = h ∙ ap (sets d 0) ladder-is
 
-  module _ (d : List Float) (n : ℕ) (count : n ≡ length (heights s o a b)) where
-    pub heights-none : length d < n → d ≡ placed 0 (heights s o a b) d
-    heights-none h = sym (placed-short 0 (heights s o a b) d (omega arith))
+  module _ (d : List Float) (n : ℕ) (count : n ≡ length (heightsOn s o a b)) where
+    pub heights-none : length d < n → d ≡ placed 0 (heightsOn s o a b) d
+    heights-none h = sym (placed-short 0 (heightsOn s o a b) d (omega arith))
 
-    module _ (e : List Float) (room : n ≤ length d) (written : e ≡ sets d 0 (ladder s o a b)) where
-      long : n ≡ length (ladder s o a b)
+    module _ (e : List Float) (room : n ≤ length d) (written : e ≡ sets d 0 (ladderOn s o a b)) where
+      long : n ≡ length (ladderOn s o a b)
       long = count ∙ length-heights
 
-      front : e ≡ ladder s o a b ++ drop n d
-      front = written ∙ sets-front (ladder s o a b) d n long room
+      front : e ≡ ladderOn s o a b ++ drop n d
+      front = written ∙ sets-front (ladderOn s o a b) d n long room
 
-      goal : (t : Bool) → le a b ≡ t → placed 0 (heights s o a b) d ≡ cond t (ladder s o a b) (reverse (ladder s o a b)) ++ drop n d
+      goal : (t : Bool) → le a b ≡ t → placed 0 (heightsOn s o a b) d ≡ cond t (ladderOn s o a b) (reverse (ladderOn s o a b)) ++ drop n d
       unfolding heights
-      goal t order = placed-front (heights s o a b) d n count room ∙ ap (λ (u : Bool). cond u (ladder s o a b) (reverse (ladder s o a b)) ++ drop n d) order
+      goal t order = placed-front (heightsOn s o a b) d n count room ∙ ap (λ (u : Bool). cond u (ladderOn s o a b) (reverse (ladderOn s o a b)) ++ drop n d) order
 
-      pub heights-up : le a b ≡ true → e ≡ placed 0 (heights s o a b) d
+      pub heights-up : le a b ≡ true → e ≡ placed 0 (heightsOn s o a b) d
       heights-up order = front ∙ sym (goal true order)
 
-      pub heights-down : (w : List Float) → le a b ≡ false → w ≡ reverse (take n e) → w ++ drop n e ≡ placed 0 (heights s o a b) d
+      pub heights-down : (w : List Float) → le a b ≡ false → w ≡ reverse (take n e) → w ++ drop n e ≡ placed 0 (heightsOn s o a b) d
       heights-down w order turned =
-          let l = ladder s o a b in
+          let l = ladderOn s o a b in
           let head : take n e ≡ l = ap (take n) front ∙ take-at l (drop n d) n (sym long) in
           let tail : drop n e ≡ drop n d = ap (drop n) front ∙ drop-at l (drop n d) n (sym long) in
           (λ i. (turned ∙ ap reverse head) i ++ tail i) ∙ sym (goal false order)
