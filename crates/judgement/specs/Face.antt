@@ -1,0 +1,109 @@
+-- What the bytes of a face record mean: the surface, the tolerances and the loops. The sentences are those of 01, "The face record".
+use Prim.Native.Nat.{ℕ, _+_}
+use mathlib.Core.Bool.{Bool, cond}
+use mathlib.Core.List.{List, [], _∷_, map}
+use lib.IntN.{ℤ, pos}
+use lib.ListN.{length}
+use lib.Ieee.{Float}
+use Rattle.numbers.specs.Constants.{plusZero}
+use Rattle.numbers.specs.Frames.{frameOf}
+use Rattle.numbers.specs.declared.math.Vec3.{Vec3}
+use Rattle.numbers.specs.declared.math.Frame.{Frame}
+use Rattle.surfaces.specs.declared.options.Resolved.{Resolved}
+use Rattle.surfaces.specs.declared.surface.Period.{Period}
+use Rattle.surfaces.specs.declared.surface.Period.the-variants.{Every, None}
+use Rattle.surfaces.specs.declared.surface.Surface.{Surface}
+use Rattle.surfaces.specs.declared.surface.Surface.the-variants.{Plane, Cylinder, Cone, Sphere, Torus}
+use Rattle.surfaces.specs.Domains.{uPeriod, vPeriod}
+use Rattle.lists.specs.Pieces.{pieces}
+use Rattle.loops.specs.Wrap.{netWrap}
+use Rattle.bands.specs.Corners.{Corner, Corners, us}
+use Rattle.bands.specs.Columns.{settingOf}
+use Rattle.bands.specs.Given.{Measured, Given, wraps, only, givenOf}
+use Rattle.bands.specs.Strip.{Setting}
+use Rattle.records.specs.Bytes.{_=?_}
+use Rattle.records.specs.Face.{kind, sense, segments, counts, realOf, parameters, positions}
+use Rattle.records.specs.Lent.{uOf, vOf}
+use Rattle.records.specs.Limits.{plane, cylinder, cone, sphere}
+
+-- ---- the surface
+
+-- the vector in the reals i, i + 1 and i + 2
+abbrev pub vectorIn : List ℕ → ℕ → Vec3
+vectorIn s i = record { x = realOf s i; y = realOf s (i + 1); z = realOf s (i + 2) }
+
+-- "0 to 8: origin, axis, reference direction .. A frame is an origin and two directions, made by `Frame::new`, fallbacks included."
+unfoldable pub frameIn : List ℕ → Frame
+frameIn s = frameOf (vectorIn s 0) (vectorIn s 3) (vectorIn s 6)
+
+-- "kind (0 plane, 1 cylinder, 2 cone, 3 sphere, 4 torus)"; "A surface is one of five kinds, each with its own sizes": its size and its second one
+unfoldable pub surfaceOf : ℕ → Float → Float → Surface
+surfaceOf k a b =
+    cond (k =? plane) Plane
+    (cond (k =? cylinder) (Cylinder a)
+    (cond (k =? cone) (Cone a b)
+    (cond (k =? sphere) (Sphere a) (Torus a b))))
+
+-- "9: radius or major radius .. 10: cone half angle .. or torus minor radius"
+unfoldable pub surfaceIn : List ℕ → Surface
+surfaceIn s = surfaceOf (kind s) (realOf s 9) (realOf s 10)
+
+-- "4 minimum segments", "11: sag", "12: angle"
+unfoldable pub optionsIn : List ℕ → Resolved
+optionsIn s = record { sag = realOf s 11; angle = realOf s 12; «min_edge_segments» = segments s }
+
+-- "3 same sense (0 or 1)"
+unfoldable pub senseIn : List ℕ → Bool
+senseIn s = sense s =? 1
+
+-- a period as a real: 0 where a parameter does not come round
+abbrev pub periodLength : Period → Float
+periodLength None = plusZero
+periodLength (Every p) = p
+
+abbrev pub uPeriodIn : List ℕ → Float
+uPeriodIn s = periodLength (uPeriod (surfaceIn s))
+
+abbrev pub vPeriodIn : List ℕ → Float
+vPeriodIn s = periodLength (vPeriod (surfaceIn s))
+
+-- ---- the loops
+
+-- corners of which the u, the v and the positions are given
+unfoldable pub cornersOf : {A : Type 0} → List Float → List Float → List A → Corners A
+cornersOf [] vs ps = []
+cornersOf (u ∷ us) [] ps = []
+cornersOf (u ∷ us) (v ∷ vs) [] = []
+cornersOf (u ∷ us) (v ∷ vs) (p ∷ ps) = record { u = u; v = v; at = p } ∷ cornersOf us vs ps
+
+-- "Then all (u, v), then all (x, y, z)."
+unfoldable pub cornersIn : List ℕ → Corners Vec3
+cornersIn s = cornersOf (map uOf (parameters s)) (map vOf (parameters s)) (positions s)
+
+-- "Then L two-byte counts": the loops in file order
+unfoldable pub loopsIn : List ℕ → List (Corners Vec3)
+loopsIn s = pieces (counts s) (cornersIn s)
+
+-- `net_wrap` of a loop; where u does not come round none wraps
+abbrev pub wrapOf : Period → Corners Vec3 → ℤ
+wrapOf None loop = pos 0
+wrapOf (Every p) loop = netWrap (us loop) p
+
+unfoldable pub measuredIn : List ℕ → List (Measured Vec3)
+measuredIn s = map (λ (loop : Corners Vec3). record { corners = loop; wrap = wrapOf (uPeriod (surfaceIn s)) loop }) (loopsIn s)
+
+abbrev pub isWrapping : Measured Vec3 → Bool
+isWrapping m = wraps (m .wrap)
+
+-- how many loops wrap
+unfoldable pub wrapping : List ℕ → ℕ
+wrapping s = length (only isWrapping (measuredIn s))
+
+-- ---- a band
+
+-- what a band takes from the surface and the face, and its two rings and holes
+unfoldable pub settingIn : List ℕ → Setting Vec3
+settingIn s = settingOf (frameIn s) (surfaceIn s) (optionsIn s) (uPeriodIn s) (senseIn s)
+
+unfoldable pub givenIn : List ℕ → Given Vec3
+givenIn s = givenOf (measuredIn s)

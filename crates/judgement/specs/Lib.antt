@@ -1,0 +1,4 @@
+pub mod Face
+pub mod Later
+pub mod Paths
+pub mod Judge
