@@ -2,3 +2,4 @@ pub mod Face
 pub mod Later
 pub mod Paths
 pub mod Judge
+pub mod Values

@@ -133,7 +133,7 @@ triangleResult = record {
 }
 
 -- "134 out: `01 00 00 00 03 00`, 6.0, the three pairs, the three positions"
-abbrev written : List ℕ
+abbrev pub written : List ℕ
 written =
     1 ∷ 0 ∷ 0 ∷ 0 ∷ 3 ∷ 0 ∷
     0 ∷ 0 ∷ 0 ∷ 0 ∷ 0 ∷ 0 ∷ 24 ∷ 64 ∷  -- 6
