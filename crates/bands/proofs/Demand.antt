@@ -171,7 +171,7 @@ module _ {A : Type 0} (S : Setting A) where
   unfolding outer
   outer-is given = map-dropRepeats at (S .same) keep (λ kept x. refl) (stripOf S given)
 
-  holes-are : (given : Given A) → map positions (holes S given) ≡ map positions (given .holes)
+  pub holes-are : (given : Given A) → map positions (holes S given) ≡ map positions (given .holes)
   unfolding holes joined started trial laid
   holes-are given = reseam-holes (S .period) (laid (S .period) given)
 

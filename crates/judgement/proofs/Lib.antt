@@ -1,2 +1,5 @@
 pub mod Each
 pub mod Doubles
+pub mod Sizes
+pub mod Loops
+pub mod Written
