@@ -3,7 +3,7 @@ use Prim.Native.Nat.{ℕ, zero, suc, _-_, _<_, suc-le-suc}
 use mathlib.Core.Path.{_≡_, refl, subst, sym}
 use mathlib.Core.Bool.{Bool, true, false, cond, _&&_, _||_}
 use mathlib.Core.List.{List, [], _∷_, _++_, map, reverse, reverseAux, dropLast}
-use native.Mathlib.Nat.{zero-lt-suc}
+use native.Mathlib.Nat.{zero-lt-suc, not-suc-le-zero, le-of-suc-le-suc}
 use lib.Dec.{ltb, eqb}
 use lib.Ieee.{Float, ne}
 use lib.ListN.{length, getD, take, drop}
@@ -28,6 +28,11 @@ module _ {A : Type 0} {P : A → Type 0} where
   all-getD none k d p = p
   all-getD (and h hs) zero d p = h
   all-getD (and h hs) (suc k) d p = all-getD hs k d p
+
+  pub all-in : {xs : List A} → All P xs → (k : ℕ) (d : A) → k < length xs → P (getD xs k d)
+  all-in none k d l = absurd (not-suc-le-zero l)
+  all-in (and h hs) zero d l = h
+  all-in (and h hs) (suc k) d l = all-in hs k d (le-of-suc-le-suc l)
 
   pub all-at : (xs : List A) (d : A) → ((k : ℕ) → k < length xs → P (getD xs k d)) → All P xs
   all-at [] d h = none

@@ -3,3 +3,4 @@ pub mod Doubles
 pub mod Sizes
 pub mod Loops
 pub mod Written
+pub mod Demands

@@ -2,9 +2,10 @@
 use Prim.Native.Nat.{ℕ, _+_, _≤_}
 use mathlib.Core.Path.{_≡_, refl, sym, ap, _∙_}
 use mathlib.Core.Bool.{Bool, true, false, cond, _&&_}
-use mathlib.Core.List.{List, [], _∷_, map, map-map, reverse, dropLast}
+use mathlib.Core.List.{List, [], _∷_, map}
 use native.Mathlib.Omega.{arith}
-use lib.ListN.{length, drop, length-map}
+use lib.ListN.{length, length-map}
+use borrow.Author.Tests.{eqb-false}
 use lib.Ieee.{Float, binary64, eq}
 use lib.Ieee.Bits.{ofBits-fits}
 use lib.Ieee.Fits.{add-fits, neg-fits}
@@ -16,7 +17,7 @@ use Rattle.numbers.specs.declared.math.Frame.{Frame}
 use Rattle.surfaces.specs.declared.options.Resolved.{Resolved}
 use Rattle.surfaces.specs.declared.surface.Surface.{Surface}
 use Rattle.surfaces.specs.declared.surface.Surface.the-variants.{Plane, Cylinder, Cone, Sphere, Torus}
-use Rattle.surfaces.specs.Domains.{domainOf}
+use Rattle.surfaces.specs.Domains.{fullTurn, domainOf}
 use Rattle.loops.specs.Area.{areaOf}
 use Rattle.loops.specs.Part.{raised}
 use Rattle.loops.proofs.Trailing.{repeats-fewer}
@@ -24,7 +25,7 @@ use Rattle.regions.specs.Outer.{holesOf}
 use Rattle.regions.specs.Rephase.{shiftOf, moved, rephased}
 use Rattle.regions.specs.Rephase as Rephase
 use Rattle.regions.specs.declared.rephase.Branch.{Branch}
-use Rattle.whole.specs.Boundary.{corner, sides, sidesOf, uRungs, vRungs, wholeCorners, positionOf, wholeArea}
+use Rattle.whole.specs.Boundary.{sides, sidesOf, uRungs, vRungs, wholeCorners, positionOf, wholeArea}
 use Rattle.whole.proofs.boundary.Meaning.{few-corners}
 use Rattle.bands.specs.Band.{stripOf, outer, holes}
 use Rattle.bands.specs.Corners.{Corner, Corners, us, vs, positions}
@@ -34,13 +35,13 @@ use Rattle.records.specs.Face.{loops, points}
 use Rattle.records.specs.Limits.{maxLoops, maxPoints, maxStrip}
 use Rattle.records.specs.Result.{All, none, and, Fits, FitsUv, FitsXyz, Writable, Loop, cornersOf, countOf, resultOf}
 use Rattle.records.specs.Result as Result
-use Rattle.records.proofs.Pieces.{sum-counts, writable}
+use Rattle.records.proofs.Pieces.{writable}
 use Rattle.judgement.specs.Face.{frameIn, surfaceIn, optionsIn, uPeriodIn, vPeriodIn, loopsIn, wrapping, settingIn, givenIn}
 use Rattle.judgement.specs.Face as Face
 use Rattle.judgement.specs.Later.{stripPoints}
 use Rattle.judgement.specs.Paths.{Closed, signedArea, measured, outerNumber, outerLoop, branchOf, rephasedHole, closedLoops, loopsOf, wrappedLoops, wholeLoop, uvOf, xyzOf, pathIn, resultLoops, resultIn}
-use Rattle.judgement.proofs.Doubles.{FitsCorner, FitsCorners, point-fits, rungs-fit, area-fits, outer-fits, holes-fit}
-use Rattle.judgement.proofs.Each.{all-getD, all-append, all-take, all-drop, all-dropLast, all-reverse, all-if, all-map}
+use Rattle.judgement.proofs.Doubles.{FitsCorners, point-fits, rungs-fit, area-fits, outer-fits, holes-fit}
+use Rattle.judgement.proofs.Each.{all-getD, all-append, all-take, all-drop, all-dropLast, all-reverse, all-map}
 use Rattle.judgement.proofs.Loops.{corners-fit, loops-many, loops-total, loops-fit, given-fits, holes-many, holes-points}
 use Rattle.judgement.proofs.Sizes.{total, holes-few, holes-total, corners-few, all-short}
 
@@ -113,10 +114,173 @@ module _ (b : Branch) where
 
   hole-few : (r : Corners Vec3) → countOf (rephasedHole b r) ≤ length r
   unfolding rephasedHole
-  hole-few r = let a = corners-few (rephased b (record { us = us r; vs = vs r; area = signedArea r }) .us) (rephased b (record { us = us r; vs = vs r; area = signedArea r }) .vs) (positions r) in
-      let e = length-map r (λ (c : Corner Vec3). c .at) in omega arith
+  hole-few r =
+      let l = rephased b (record { us = us r; vs = vs r; area = signedArea r }) in
+      let a = corners-few (l .us) (l .vs) (positions r) in
+      let e = length-map r (λ (c : Corner Vec3). c .at) in
+      omega arith
 
   holes-counts : (ls : List (Corners Vec3)) → sum (map countOf (map (rephasedHole b) ls)) ≤ total ls
   unfolding sum
   holes-counts [] = omega arith
   holes-counts (l ∷ ls) = let a = hole-few l in let h = holes-counts ls in omega arith
+
+module _ (s : List ℕ) (loops-are : loops s ≤ maxLoops) (points-are : points s ≤ maxPoints) where
+  rest-fits : (n : ℕ) → All FitsCorners (holesOf n (loopsIn s))
+  unfolding holesOf
+  rest-fits n = all-append (all-take n (loops-fit s)) (all-drop (n + 1) (loops-fit s))
+
+  closed-fine : Fine (closedLoops (uPeriodIn s) (vPeriodIn s) (loopsIn s))
+  unfolding closedLoops outerLoop sum
+  closed-fine =
+      let n : ℕ = outerNumber (loopsIn s) in
+      let b : Branch = branchOf (uPeriodIn s) (vPeriodIn s) (outerLoop (loopsIn s)) in
+      let rest : List (Corners Vec3) = holesOf n (loopsIn s) in
+      let all = loops-many s in
+      let long = length-map rest (rephasedHole b) in
+      let fewer = holes-few n (loopsIn s) in
+      let counts = holes-counts b rest in
+      let within = holes-total n (loopsIn s) in
+      let given = loops-total s in
+      record {
+        some = omega arith;
+        few = omega arith;
+        corners = omega arith;
+        fit = and (measured-fits (outerLoop (loopsIn s)) (all-getD (loops-fit s) n [] none)) (all-map (rephasedHole b) (hole-fits b) (rest-fits n));
+      }
+
+-- ---- bands
+
+loops-of-few : (areas : List Float) (ls : List (Corners Vec3)) → length (loopsOf areas ls) ≤ length ls
+unfolding loopsOf
+loops-of-few [] ls = omega arith
+loops-of-few (a ∷ areas) [] = omega arith
+loops-of-few (a ∷ areas) (l ∷ ls) = let h = loops-of-few areas ls in omega arith
+
+loops-of-counts : (areas : List Float) (ls : List (Corners Vec3)) → sum (map countOf (loopsOf areas ls)) ≤ total ls
+unfolding loopsOf sum
+loops-of-counts [] ls = omega arith
+loops-of-counts (a ∷ areas) [] = omega arith
+loops-of-counts (a ∷ areas) (l ∷ ls) = let h = loops-of-counts areas ls in omega arith
+
+loops-of-fit : {areas : List Float} {ls : List (Corners Vec3)} → All Fits areas → All FitsCorners ls → All FitsLoop (loopsOf areas ls)
+unfolding loopsOf
+loops-of-fit none hs = none
+loops-of-fit (and a areas) none = none
+loops-of-fit (and a areas) (and h hs) = and (record { area = a; corners = h }) (loops-of-fit areas hs)
+
+-- as many positions, as many corners
+lengths-of : (ls : List (Corners Vec3)) → map length (map positions ls) ≡ map length ls
+lengths-of [] = refl
+lengths-of (l ∷ ls) = λ i. length-map l (λ (c : Corner Vec3). c .at) i ∷ lengths-of ls i
+
+module _ (s : List ℕ) where
+  abbrev after : List (Corners Vec3)
+  after = holes (settingIn s) (givenIn s)
+
+  -- the holes have the points that they were given
+  holes-same : map length after ≡ map length (givenIn s .holes)
+  holes-same = sym (lengths-of after) ∙ ap (map length) (holes-are (settingIn s) (givenIn s)) ∙ lengths-of (givenIn s .holes)
+
+  pub holes-as-many : length after ≡ length (givenIn s .holes)
+  holes-as-many = sym (length-map after length) ∙ ap length holes-same ∙ length-map (givenIn s .holes) length
+
+  abbrev areas : List Float
+  areas = map signedArea (givenIn s .holes)
+
+  points-fit : (u v : Float) → FitsXyz (settingIn s .pointAt u v)
+  unfolding settingIn
+  points-fit u v = point-fits (frameIn s) (surfaceIn s) u v
+
+  ladders-fit : (lo hi : Float) (n : ℕ) → All Fits (settingIn s .rungs lo hi n)
+  unfolding settingIn
+  ladders-fit lo hi n = rungs-fit lo hi n
+
+module _ (s : List ℕ) (loops-are : loops s ≤ maxLoops) (points-are : points s ≤ maxPoints) (strip-is : stripPoints s ≤ maxStrip) where
+  outer-few : length (outer (settingIn s) (givenIn s)) ≤ maxStrip
+  unfolding outer stripPoints
+  outer-few =
+      let h = repeats-fewer (λ (a b : Corner Vec3). settingIn s .same (a .at) (b .at)) (stripOf (settingIn s) (givenIn s)) in omega arith
+
+  wrapped-fine : Fine (wrappedLoops s)
+  unfolding wrappedLoops sum
+  wrapped-fine =
+      let first = outer-few in
+      let few = loops-of-few (areas s) (after s) in
+      let counts = loops-of-counts (areas s) (after s) in
+      let long = holes-as-many s in
+      let points-of = ap sum (holes-same s) in
+      let many = holes-many s in
+      let given = holes-points s in
+      record {
+        some = omega arith;
+        few = omega arith;
+        corners = omega arith;
+        fit = and (measured-fits (outer (settingIn s) (givenIn s)) (outer-fits (settingIn s) (points-fit s) (ladders-fit s) (givenIn s) (given-fits s)))
+            (loops-of-fit (all-map signedArea (λ r h. area-fits (us r) (vs r)) (given-fits s .holes)) (holes-fit (settingIn s) (points-fit s) (ladders-fit s) (givenIn s) (given-fits s)));
+      }
+
+-- ---- whole surfaces
+
+record FitsInterval (i : Interval) : Type 0 where
+  pub lo : Fits (i .lo)
+  pub hi : Fits (i .hi)
+
+sides-fit : (us vs : List Float) (ui vi : Interval) → All Fits us → All Fits vs → FitsInterval ui → FitsInterval vi → All FitsUv (sides us vs ui vi)
+unfolding sides
+sides-fit us vs ui vi hu hv iu iv =
+    all-append (all-map _ (λ u h. record { u = h; v = iv .lo }) (all-dropLast us hu))
+    (all-append (all-map _ (λ v h. record { u = iu .hi; v = h }) (all-dropLast vs hv))
+    (all-append (all-map _ (λ u h. record { u = h; v = iv .hi }) (all-reverse (all-drop 1 hu)))
+    (all-map _ (λ v h. record { u = iu .lo; v = h }) (all-reverse (all-drop 1 hv)))))
+
+turn-fits : FitsInterval fullTurn
+turn-fits = record { lo = ofBits-fits binary64 _; hi = ofBits-fits binary64 _ }
+
+whole-corners-fit : (s : Surface) (o : Resolved) → All FitsUv (wholeCorners s o)
+unfolding wholeCorners sidesOf uRungs vRungs domainOf
+whole-corners-fit Plane o = none
+whole-corners-fit (Cylinder R) o = none
+whole-corners-fit (Cone R a) o = none
+whole-corners-fit (Sphere R) o =
+    sides-fit _ _ _ _ (rungs-fit _ _ _) (rungs-fit _ _ _) turn-fits (record { lo = neg-fits binary64 H (ofBits-fits binary64 _); hi = ofBits-fits binary64 _ })
+whole-corners-fit (Torus R r) o = sides-fit _ _ _ _ (rungs-fit _ _ _) (rungs-fit _ _ _) turn-fits turn-fits
+
+position-fits : (s : Surface) (f : Frame) (c : Vec2) → FitsXyz (positionOf s f c)
+unfolding positionOf
+position-fits s f c = point-fits f s _ _
+
+module _ (s : List ℕ) where
+  abbrev cornerAt : Vec2 → Corner Vec3
+  cornerAt c = record { u = c .u; v = c .v; at = positionOf (surfaceIn s) (frameIn s) c }
+
+  whole-fine : Fine (wholeLoop s ∷ [])
+  unfolding wholeLoop wholeArea sum
+  whole-fine =
+      let most = few-corners (surfaceIn s) (optionsIn s) in
+      let long = length-map (wholeCorners (surfaceIn s) (optionsIn s)) cornerAt in
+      record {
+        some = omega arith;
+        few = omega arith;
+        corners = omega arith;
+        fit = and (record {
+          area = area-fits _ _;
+          corners = all-map cornerAt (λ c h. record { u = h .u; v = h .v; at = position-fits (surfaceIn s) (frameIn s) c }) (whole-corners-fit (surfaceIn s) (optionsIn s));
+        }) none;
+      }
+
+  -- ---- the result
+
+  module _ (loops-are : loops s ≤ maxLoops) (points-are : points s ≤ maxPoints) (strip-is : (wrapping s ≡ 0 → ⊥) → stripPoints s ≤ maxStrip) where
+    pub result-fine : Fine (resultLoops s)
+    unfolding resultLoops
+    result-fine = pick (loops s =? 0) (wrapping s =? 0) refl
+      where
+        pick : (a b : Bool) → (wrapping s =? 0) ≡ b → Fine (cond a (wholeLoop s ∷ []) (cond b (closedLoops (uPeriodIn s) (vPeriodIn s) (loopsIn s)) (wrappedLoops s)))
+        pick true b e = whole-fine
+        pick false true e = closed-fine s loops-are points-are
+        pick false false e = wrapped-fine s loops-are points-are (strip-is (eqb-false (wrapping s) 0 e))
+
+    pub result-writable : Writable (resultIn s)
+    unfolding resultIn
+    result-writable = fine-writable (pathIn s) (resultLoops s) result-fine
