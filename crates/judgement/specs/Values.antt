@@ -10,6 +10,7 @@ use Rattle.numbers.specs.Constants.{one, H, PI, TAU}
 use Rattle.numbers.specs.Order.{absOf}
 use Rattle.numbers.specs.Position.{same}
 use Rattle.numbers.specs.Round.{roundAway, floorOf, ceilOf}
+use Rattle.numbers.specs.Rounded.{_⊖_, count as whole}
 use Rattle.numbers.specs.Trig.{sincosOf}
 use Rattle.lists.specs.Pieces.{pieces}
 use Rattle.surfaces.specs.Domains.{uPeriod, vPeriod, domainOf}
@@ -45,7 +46,7 @@ use Rattle.judgement.specs.Later.{loopIn, openRing, oneRing, manyRings, 
 use Rattle.judgement.specs.Paths.{outerNumber, outerLoop, closedLoops, loopsOf, wrappedLoops, wholeLoop, pathIn, resultLoops, resultIn}
 use Rattle.judgement.specs.Judge.{allConditions, judge, outerIn}
 
--- ---- records
+-- ---- parts of records
 
 abbrev -1·0 : Float
 -1·0 = ofBits binary64 0xbff0_0000_0000_0000
@@ -57,59 +58,73 @@ abbrev 0·5085 : Float
 abbrev head : Float → List Float
 head angle = 0·0 ∷ 0·0 ∷ 0·0 ∷ 0·0 ∷ 0·0 ∷ one ∷ one ∷ 0·0 ∷ 0·0 ∷ one ∷ 0·0 ∷ one ∷ angle ∷ []
 
--- A band: a cylinder of radius 1 between v 0 and v 1, one segment. Each ring has three points of a turn and its first again; the upper loop runs
--- backward in the file.
+-- a ring at a height: three points of a turn of u, and the first again; with u rising and with u falling
+abbrev risingUv : Float → List Float
+risingUv v = 0·0 ∷ v ∷ H ∷ v ∷ PI ∷ v ∷ TAU ∷ v ∷ []
+
+abbrev risingXyz : Float → List Float
+risingXyz z = one ∷ 0·0 ∷ z ∷ 0·0 ∷ one ∷ z ∷ -1·0 ∷ 0·0 ∷ z ∷ one ∷ 0·0 ∷ z ∷ []
+
+abbrev fallingUv : Float → List Float
+fallingUv v = TAU ∷ v ∷ PI ∷ v ∷ H ∷ v ∷ 0·0 ∷ v ∷ []
+
+abbrev fallingXyz : Float → List Float
+fallingXyz z = one ∷ 0·0 ∷ z ∷ -1·0 ∷ 0·0 ∷ z ∷ 0·0 ∷ one ∷ z ∷ one ∷ 0·0 ∷ z ∷ []
+
+-- a ring of two points of a turn, and the first again
+abbrev shortUv : Float → List Float
+shortUv v = 0·0 ∷ v ∷ PI ∷ v ∷ TAU ∷ v ∷ []
+
+abbrev shortXyz : Float → List Float
+shortXyz z = one ∷ 0·0 ∷ z ∷ -1·0 ∷ 0·0 ∷ z ∷ one ∷ 0·0 ∷ z ∷ []
+
+-- ---- records
+
+-- a band: a cylinder between v 0 and v 1, one segment; the upper loop runs backward
 abbrev pub band : List ℕ
-band =
-    (1 ∷ 1 ∷ 2 ∷ 1 ∷ 1 ∷ 4 ∷ 0 ∷ 4 ∷ 0 ∷ [])
-    ++ row real (head 1·5 ++ (
-    0·0 ∷ 0·0 ∷ H ∷ 0·0 ∷ PI ∷ 0·0 ∷ TAU ∷ 0·0 ∷  -- (u, v) of the lower loop
-    TAU ∷ one ∷ PI ∷ one ∷ H ∷ one ∷ 0·0 ∷ one ∷  -- and of the upper one
-    one ∷ 0·0 ∷ 0·0 ∷ 0·0 ∷ one ∷ 0·0 ∷ -1·0 ∷ 0·0 ∷ 0·0 ∷ one ∷ 0·0 ∷ 0·0 ∷  -- (x, y, z)
-    one ∷ 0·0 ∷ one ∷ -1·0 ∷ 0·0 ∷ one ∷ 0·0 ∷ one ∷ one ∷ one ∷ 0·0 ∷ one ∷ []))
+band = (1 ∷ 1 ∷ 2 ∷ 1 ∷ 1 ∷ 4 ∷ 0 ∷ 4 ∷ 0 ∷ []) ++ row real (head 1·5 ++ (risingUv 0·0 ++ (fallingUv one ++ (risingXyz 0·0 ++ fallingXyz one))))
 
 -- its result: a wrapped face without holes, of eight corners and of area TAU
 abbrev pub bandWritten : List ℕ
-bandWritten =
-    (1 ∷ 1 ∷ 0 ∷ 0 ∷ 8 ∷ 0 ∷ [])
-    ++ row real (TAU ∷
-    0·0 ∷ 0·0 ∷ H ∷ 0·0 ∷ PI ∷ 0·0 ∷ TAU ∷ 0·0 ∷
-    TAU ∷ one ∷ PI ∷ one ∷ H ∷ one ∷ 0·0 ∷ one ∷
-    one ∷ 0·0 ∷ 0·0 ∷ 0·0 ∷ one ∷ 0·0 ∷ -1·0 ∷ 0·0 ∷ 0·0 ∷ one ∷ 0·0 ∷ 0·0 ∷
-    one ∷ 0·0 ∷ one ∷ -1·0 ∷ 0·0 ∷ one ∷ 0·0 ∷ one ∷ one ∷ one ∷ 0·0 ∷ one ∷ [])
+bandWritten = (1 ∷ 1 ∷ 0 ∷ 0 ∷ 8 ∷ 0 ∷ []) ++ row real (TAU ∷ risingUv 0·0 ++ (fallingUv one ++ (risingXyz 0·0 ++ fallingXyz one)))
 
--- three rings of three points on that cylinder, all in one place
+-- the same band with its loops the other way and in the other order, and with a hole that lies a turn too far: u 7, 7, 8
+abbrev holeXyz : List Float
+holeXyz = one ∷ one ∷ 0·0 ∷ one ∷ one ∷ one ∷ 0·0 ∷ 0·0 ∷ one ∷ []
+
+abbrev bored : List ℕ
+bored =
+    (1 ∷ 1 ∷ 3 ∷ 1 ∷ 1 ∷ 4 ∷ 0 ∷ 3 ∷ 0 ∷ 4 ∷ 0 ∷ [])
+    ++ row real (head 1·5 ++ (
+    risingUv one ++ ((whole 7 ∷ 0·5085 ∷ whole 7 ∷ 0·0 ∷ whole 8 ∷ 0·0 ∷ []) ++ (fallingUv 0·0 ++ (risingXyz one ++ (holeXyz ++ fallingXyz 0·0))))))
+
+-- The hole is brought back; its area is that of u 7, 7, 8. Worked out anew it would be 0x3fd0_45a1_cac0_8312.
+abbrev boredWritten : List ℕ
+boredWritten =
+    (1 ∷ 1 ∷ 1 ∷ 0 ∷ 8 ∷ 0 ∷ 3 ∷ 0 ∷ [])
+    ++ row real (TAU ∷ ofBits binary64 0x3fd0_45a1_cac0_8310 ∷
+    risingUv 0·0 ++ (fallingUv one
+    ++ (((whole 7 ⊖ TAU) ∷ 0·5085 ∷ (whole 7 ⊖ TAU) ∷ 0·0 ∷ (whole 8 ⊖ TAU) ∷ 0·0 ∷ []) ++ (risingXyz 0·0 ++ (fallingXyz one ++ holeXyz)))))
+
+-- three rings in one place
 abbrev threeRings : List ℕ
 threeRings =
     (1 ∷ 1 ∷ 3 ∷ 1 ∷ 1 ∷ 3 ∷ 0 ∷ 3 ∷ 0 ∷ 3 ∷ 0 ∷ [])
-    ++ row real (head 1·5 ++ (
-    0·0 ∷ 0·0 ∷ PI ∷ 0·0 ∷ TAU ∷ 0·0 ∷ 0·0 ∷ 0·0 ∷ PI ∷ 0·0 ∷ TAU ∷ 0·0 ∷ 0·0 ∷ 0·0 ∷ PI ∷ 0·0 ∷ TAU ∷ 0·0 ∷
-    one ∷ 0·0 ∷ 0·0 ∷ -1·0 ∷ 0·0 ∷ 0·0 ∷ one ∷ 0·0 ∷ 0·0 ∷
-    one ∷ 0·0 ∷ 0·0 ∷ -1·0 ∷ 0·0 ∷ 0·0 ∷ one ∷ 0·0 ∷ 0·0 ∷
-    one ∷ 0·0 ∷ 0·0 ∷ -1·0 ∷ 0·0 ∷ 0·0 ∷ one ∷ 0·0 ∷ 0·0 ∷ []))
+    ++ row real (head 1·5 ++ (shortUv 0·0 ++ (shortUv 0·0 ++ (shortUv 0·0 ++ (shortXyz 0·0 ++ (shortXyz 0·0 ++ shortXyz 0·0))))))
 
--- a cylinder without loops
+-- a cylinder and a sphere without loops
 abbrev bareCylinder : List ℕ
 bareCylinder = (1 ∷ 1 ∷ 0 ∷ 1 ∷ 1 ∷ []) ++ row real (head 1·5)
 
--- a sphere without loops
 abbrev bareSphere : List ℕ
 bareSphere = set bareCylinder 1 3
 
--- Two rings on a sphere of radius 1, at v 0 and 0.5085, 0.001 a step: 508 inner rungs. The upper one has three points, the lower one three or four.
-abbrev upperUv : List Float
-upperUv = 0·0 ∷ 0·5085 ∷ PI ∷ 0·5085 ∷ TAU ∷ 0·5085 ∷ []
-
-abbrev back : List Float
-back = one ∷ 0·0 ∷ 0·0 ∷ -1·0 ∷ 0·0 ∷ 0·0 ∷ one ∷ 0·0 ∷ 0·0 ∷ []
-
+-- two rings on a sphere, at v 0 and 0.5085, at most 0.001 a step: 508 inner rungs, and 6 or 7 points in the rings
 abbrev strip1024 : List ℕ
-strip1024 = (1 ∷ 3 ∷ 2 ∷ 1 ∷ 1 ∷ 3 ∷ 0 ∷ 3 ∷ 0 ∷ []) ++ row real (head 0·001 ++ ((0·0 ∷ 0·0 ∷ PI ∷ 0·0 ∷ TAU ∷ 0·0 ∷ []) ++ (upperUv ++ (back ++ back))))
+strip1024 = (1 ∷ 3 ∷ 2 ∷ 1 ∷ 1 ∷ 3 ∷ 0 ∷ 3 ∷ 0 ∷ []) ++ row real (head 0·001 ++ (shortUv 0·0 ++ (shortUv 0·5085 ++ (shortXyz 0·0 ++ shortXyz one))))
 
 abbrev strip1025 : List ℕ
-strip1025 =
-    (1 ∷ 3 ∷ 2 ∷ 1 ∷ 1 ∷ 4 ∷ 0 ∷ 3 ∷ 0 ∷ [])
-    ++ row real (head 0·001 ++ ((0·0 ∷ 0·0 ∷ H ∷ 0·0 ∷ PI ∷ 0·0 ∷ TAU ∷ 0·0 ∷ []) ++ (upperUv ++ (one ∷ 0·0 ∷ 0·0 ∷ back ++ back))))
+strip1025 = (1 ∷ 3 ∷ 2 ∷ 1 ∷ 1 ∷ 4 ∷ 0 ∷ 3 ∷ 0 ∷ []) ++ row real (head 0·001 ++ (risingUv 0·0 ++ (shortUv 0·5085 ++ (risingXyz 0·0 ++ shortXyz one))))
 
 -- ---- what is answered
 
@@ -117,6 +132,7 @@ pub record Answers : Type 0 where
   -- "231 bytes in; 134 out"
   pub triangle-closed : judge 61614 triangle ≡ closed written
   pub band-closed : judge 61614 band ≡ closed bandWritten
+  pub bored-closed : judge 61614 bored ≡ closed boredWritten
   -- The last position of loop 0 stands in the bytes 313 to 336, that of loop 1 in 409 to 432. With a y of -0.0 the last is still the first, as numbers; with
   -- an x of -1.0 it is not.
   pub zero-as-number : judge 61614 (set band 328 128) ≡ closed bandWritten
@@ -140,6 +156,7 @@ unfolding Call.judge verdict tooFewLent wrongByte wrongHeader tooManyLoops endsI
 answers = record {
   triangle-closed = refl;
   band-closed = refl;
+  bored-closed = refl;
   zero-as-number = refl;
   loop-0-open = refl;
   loop-1-open = refl;
