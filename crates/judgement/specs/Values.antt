@@ -1,10 +1,11 @@
 -- Values of the whole call, computed: 01, "Values to hold", the triangle and the longest strip; a small band; a whole sphere; a record for each of the
 -- refusals 8 to 12.
 use mathlib.Core.Path.{_≡_, refl}
+use mathlib.Core.Bool.{true}
 use mathlib.Core.List.{List, [], _∷_, _++_}
 use Prim.Native.Nat.{ℕ}
 use lib.IntN.{pos}
-use lib.ListN.{set}
+use lib.ListN.{getD, set}
 use lib.Ieee.{Float, binary64, ofBits, toBits, odd, ofFields, le, lt, eq, ne, neg, add, sub, mul, div, ofInt, toSigned, toUnsigned}
 use Rattle.numbers.specs.Constants.{one, H, PI, TAU}
 use Rattle.numbers.specs.Order.{absOf}
@@ -12,8 +13,13 @@ use Rattle.numbers.specs.Position.{same}
 use Rattle.numbers.specs.Round.{roundAway, floorOf, ceilOf}
 use Rattle.numbers.specs.Rounded.{_⊖_, count as whole}
 use Rattle.numbers.specs.Trig.{sincosOf}
+use Rattle.numbers.specs.Frames.{frameOf, polarOf}
+use Rattle.numbers.specs.Sqrt.{sqrtOf}
+use Rattle.numbers.specs.Vectors.{lengthOf, directionOf, normalizedOr, leastAxis, perpendicularOf}
+use Rattle.numbers.specs.declared.math.Vec3.{Vec3}
 use Rattle.lists.specs.Pieces.{pieces}
 use Rattle.surfaces.specs.Domains.{uPeriod, vPeriod, domainOf}
+use Rattle.surfaces.specs.Points.{raisedOf, sphereOf, pointOf}
 use Rattle.surfaces.specs.Rungs.{division, divisionsFrom, slackOf as rungSlack, near, keptAfter, rungs, inner}
 use Rattle.surfaces.specs.Segments.{sagAngle, angleStepOf, segmentsOf}
 use Rattle.surfaces.specs.Steps.{vStepsOf, directionStepsOf}
@@ -28,7 +34,7 @@ use Rattle.regions.specs.Outer.{outerOf, slackOf, encloses, every, passing, enc
 use Rattle.rings.specs.Choices.{leastU, greatestU, stripShift, straddles, nearest, firstLeast, firstFrom as startFrom, serve, beginsBackward, standsAtTheCut}
 use Rattle.rings.specs.Starts.{alignedU, slidU, firstFor, laterFor, serves, firstServing, start as startOf}
 use Rattle.rings.specs.Turns.{unlessZero, beginRingAt, turnedOnto, alignAt}
-use Rattle.whole.specs.Boundary.{uSteps, vSteps, uRungs, vRungs, sides, sidesOf, wholeCorners}
+use Rattle.whole.specs.Boundary.{uSteps, vSteps, uRungs, vRungs, sides, sidesOf, wholeCorners, wrapOf, positionOf}
 use Rattle.bands.specs.Band.{firstIsLower, lift, joined, lowerFirst, lowerRing, upperRing, stripOf, outer, holes}
 use Rattle.bands.specs.Given.{only, givenOf}
 use Rattle.bands.specs.Rings.{rising, shifted, laid, onto, onStrip, anyStraddles, acrossSeam, hasStrip, reseam, alignCuts, slideToCut, trial, started}
@@ -41,7 +47,7 @@ use Rattle.records.specs.Limits.{0·0, 0·001, 1·5, holds, headRange, radius, 
 use Rattle.records.specs.Refusals.{passes, verdict, firstFrom, tooFewLent, wrongByte, wrongHeader, tooManyLoops, endsInCounts, tooFewPoints, tooManyPoints, wrongLength, badReal, firstBadReal}
 use Rattle.records.specs.Result.{encode, decode, countsIn, cornersIn as cornersBack, resultOf, cornersOf as together, loopPositionsOf}
 use Rattle.records.specs.Values.{triangle, written}
-use Rattle.judgement.specs.Face.{surfaceOf, surfaceIn, optionsIn, senseIn, cornersOf, cornersIn, loopsIn, measuredIn, wrapping, settingIn, givenIn}
+use Rattle.judgement.specs.Face.{frameIn, surfaceOf, surfaceIn, optionsIn, senseIn, cornersOf, cornersIn, loopsIn, measuredIn, wrapping, settingIn, givenIn}
 use Rattle.judgement.specs.Later.{loopIn, openRing, oneRing, manyRings, openSurface, stripPoints, longStrip}
 use Rattle.judgement.specs.Paths.{outerNumber, outerLoop, closedLoops, loopsOf, wrappedLoops, wholeLoop, pathIn, resultLoops, resultIn}
 use Rattle.judgement.specs.Judge.{allConditions, judge, outerIn}
@@ -77,6 +83,9 @@ shortUv v = 0·0 ∷ v ∷ PI ∷ v ∷ TAU ∷ v ∷ []
 
 abbrev shortXyz : Float → List Float
 shortXyz z = one ∷ 0·0 ∷ z ∷ -1·0 ∷ 0·0 ∷ z ∷ one ∷ 0·0 ∷ z ∷ []
+
+abbrev origin : Vec3
+origin = record { x = 0·0; y = 0·0; z = 0·0 }
 
 -- ---- records
 
@@ -145,6 +154,7 @@ pub record Answers : Type 0 where
   pub open-and-alone : judge 61614 (set (set band 232 64) 320 191) ≡ refused 8 0
   pub three-wrap : judge 61614 threeRings ≡ refused 10 3
   pub cylinder-bare : judge 61614 bareCylinder ≡ refused 11 0
+  pub cone-bare : judge 61614 (set bareCylinder 1 2) ≡ refused 11 0
   -- five steps round the sphere and three up it: 16 corners, 4 + 10 + 40 * 16 bytes
   pub sphere-whole : value (judge 61614 bareSphere) ≡ 654
   -- "1,024 strip points pass, 1,025 refuse"
@@ -165,6 +175,7 @@ answers = record {
   open-and-alone = refl;
   three-wrap = refl;
   cylinder-bare = refl;
+  cone-bare = refl;
   sphere-whole = refl;
   strip-passes = refl;
   strip-refused = refl;
@@ -174,3 +185,8 @@ answers = record {
 pub band-steps : net same (record { x = one; y = 0·0; z = 0·0 }) (record { x = 0·0; y = one; z = 0·0 }) (outerIn bandWritten) ≡ pos 1
 unfolding net netOf count stepsRound stepsAlong same loopPositionsOf pieces decode countsIn cornersBack row rowAt sum number numberAt bytes real realAt uvAt xyzAt ofBits ofFields odd toBits eq
 band-steps = refl
+
+-- the sphere's first corner is the pole below, to which the axis of the record points away
+pub sphere-pole : same (getD (resultIn bareSphere .positions) 0 origin) (record { x = 0·0; y = 0·0; z = -1·0 }) ≡ true
+unfolding resultIn resultOf resultLoops together wholeLoop wholeCorners sidesOf sides uRungs vRungs uSteps vSteps directionStepsOf segmentsOf angleStepOf sagAngle rungs keptAfter near rungSlack divisionsFrom division domainOf uPeriod vPeriod positionOf wrapOf pointOf sphereOf raisedOf polarOf frameIn frameOf surfaceIn surfaceOf optionsIn normalizedOr directionOf lengthOf sqrtOf perpendicularOf leastAxis sincosOf realAt number numberAt bytes real row same absOf ceilOf toUnsigned add sub mul div neg lt le eq ofBits ofFields odd toBits ofInt
+sphere-pole = refl
