@@ -4,3 +4,4 @@ pub mod Sizes
 pub mod Loops
 pub mod Written
 pub mod Demands
+pub mod Plain

@@ -121,13 +121,13 @@ differ m n = record {
 pub refuted : (b : Bool) → Says (not b) (b ≡ false) (b ≡ true)
 refuted b = record { true→ = not-true b; →true = ap not; false→ = not-false b; →false = ap not }
 
-when-exactly : (b : Bool) {P Q : Type 0} → Says b P Q → (p q : ℕ) → when b p ≡ at q ↔ P × (q ≡ p)
+pub when-exactly : (b : Bool) {P Q : Type 0} → Says b P Q → (p q : ℕ) → when b p ≡ at q ↔ P × (q ≡ p)
 when-exactly b w p q = (
   (λ e. let r = when-holds b p q .0 e in (w .true→ (r .0), r .1)),
   (λ r. when-holds b p q .1 (w .→true (r .0), r .1)),
 )
 
-first-exactly : (test : ℕ → Bool) {P Q : ℕ → Type 0} → ((k : ℕ) → Says (test k) (P k) (Q k)) → (n p : ℕ)
+pub first-exactly : (test : ℕ → Bool) {P Q : ℕ → Type 0} → ((k : ℕ) → Says (test k) (P k) (Q k)) → (n p : ℕ)
     → firstWhere n test ≡ at p ↔ (p < n) × P p × ((j : ℕ) → j < p → Q j)
 first-exactly test w n p = (
   (λ e. let l = first-holds test n p .0 e in (l .inside, w p .true→ (l .here), λ j h. w j .false→ (l .before j h))),
