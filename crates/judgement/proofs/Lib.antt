@@ -1,4 +1,5 @@
 pub mod Each
+pub mod Rings
 pub mod Doubles
 pub mod Sizes
 pub mod Loops

@@ -25,8 +25,9 @@ use Rattle.records.proofs.Accepted.{parameters-fit, positions-fit}
 use Rattle.records.proofs.Columns.{length-counts}
 use Rattle.records.proofs.Rows.{length-rowAt}
 use Rattle.judgement.specs.Face.{surfaceIn, cornersOf, cornersIn, loopsIn, wrapOf, measuredIn, isWrapping, givenIn}
-use Rattle.judgement.proofs.Doubles.{FitsCorners, FitsGiven}
+use Rattle.judgement.proofs.Doubles.{FitsCorner, FitsCorners}
 use Rattle.judgement.proofs.Each.{all-getD, all-take, all-drop, all-reverse, all-map, all-only}
+use Rattle.judgement.proofs.Rings.{EachGiven}
 use Rattle.judgement.proofs.Sizes.{total, pieces-total, only-few, only-sum, corners-few}
 
 -- ---- lists
@@ -116,21 +117,22 @@ module _ (s : List ℕ) where
   unfolding measuredIn
   measured-some = all-map mark (λ r h. wrapping-some (uPeriod (surfaceIn s)) r) loops-fit
 
-  measured-fit : All (λ (m : Measured Vec3). FitsCorners (m .corners)) (measuredIn s)
-  unfolding measuredIn
-  measured-fit = all-map mark (λ r h. h) loops-fit
-
   -- ---- the rings and the holes
 
-  pub given-fits : FitsGiven (givenIn s)
-  unfolding givenIn givenOf
-  given-fits =
-      let rings = all-reverse (all-only isWrapping (λ m e h. h) measured-fit) in
+  -- what holds of all corners of the loops holds of theirs
+  pub given-each : (P : Corner Vec3 → Type 0) → All (All P) (loopsIn s) → EachGiven P (givenIn s)
+  unfolding givenIn givenOf measuredIn
+  given-each P h =
+      let all : All (λ (m : Measured Vec3). All P (m .corners)) (measuredIn s) = all-map mark (λ r f. f) h in
+      let rings = all-reverse (all-only isWrapping (λ m e f. f) all) in
       record {
         first = all-getD rings 0 _ none;
         later = all-getD rings 1 _ none;
-        holes = all-map _ (λ m h. h) (all-only _ (λ m e h. h) measured-fit);
+        holes = all-map _ (λ m f. f) (all-only _ (λ m e f. f) all);
       }
+
+  pub given-fits : EachGiven FitsCorner (givenIn s)
+  given-fits = given-each FitsCorner loops-fit
 
   abbrev hole : Measured Vec3 → Bool
   hole m = not (isWrapping m)
