@@ -72,6 +72,10 @@ pub all-map : {A B : Type 0} {P : A → Type 0} {Q : B → Type 0} (f : A → B)
 all-map f to none = none
 all-map f to (and {a} h hs) = and (to a h) (all-map f to hs)
 
+pub all-so : {A : Type 0} {P Q : A → Type 0} → ((a : A) → P a → Q a) → {xs : List A} → All P xs → All Q xs
+all-so to none = none
+all-so to (and {a} h hs) = and (to a h) (all-so to hs)
+
 -- what passes a test, and what holds of all besides
 pub all-only : {A : Type 0} {P Q : A → Type 0} (test : A → Bool) → ((a : A) → test a ≡ true → P a → Q a) → {xs : List A} → All P xs → All Q (only test xs)
 unfolding only

@@ -6,3 +6,4 @@ pub mod Loops
 pub mod Written
 pub mod Demands
 pub mod Plain
+pub mod Strips

@@ -28,12 +28,12 @@ use Rattle.judgement.specs.Face.{surfaceIn, cornersOf, cornersIn, loopsI
 use Rattle.judgement.proofs.Doubles.{FitsCorner, FitsCorners}
 use Rattle.judgement.proofs.Each.{all-getD, all-take, all-drop, all-reverse, all-map, all-only}
 use Rattle.judgement.proofs.Rings.{EachGiven}
-use Rattle.judgement.proofs.Sizes.{total, pieces-total, only-few, only-sum, corners-few}
+use Rattle.judgement.proofs.Sizes.{total, pieces-total, each-short, only-few, only-sum, corners-few}
 
 -- ---- lists
 
 module _ {A : Type 0} {P : A → Type 0} where
-  all-pieces : (ns : List ℕ) {xs : List A} → All P xs → All (All P) (pieces ns xs)
+  pub all-pieces : (ns : List ℕ) {xs : List A} → All P xs → All (All P) (pieces ns xs)
   unfolding pieces
   all-pieces [] h = none
   all-pieces (n ∷ ns) h = and (all-take n h) (all-pieces ns (all-drop n h))
@@ -116,6 +116,11 @@ module _ (s : List ℕ) where
   pub measured-some : All (λ (m : Measured Vec3). isWrapping m ≡ true → 0 < length (m .corners)) (measuredIn s)
   unfolding measuredIn
   measured-some = all-map mark (λ r h. wrapping-some (uPeriod (surfaceIn s)) r) loops-fit
+
+  -- none has more points than the record
+  pub measured-short : All (λ (m : Measured Vec3). length (m .corners) ≤ points s) (measuredIn s)
+  unfolding measuredIn
+  measured-short = all-map mark (λ r h. let n = loops-total in omega arith) (each-short (loopsIn s))
 
   -- ---- the rings and the holes
 

@@ -13,6 +13,7 @@ use Rattle.bands.specs.Given.{only}
 use Rattle.records.specs.Bytes.{sum}
 use Rattle.records.specs.Result.{All, none, and, Short}
 use Rattle.judgement.specs.Face.{cornersOf}
+use Rattle.judgement.proofs.Each.{all-so}
 
 module _ {A : Type 0} where
   -- the elements of all lists together
@@ -26,6 +27,12 @@ module _ {A : Type 0} where
       let e : length (take n xs) + length (drop n xs) ≡ length xs = sym (length-append (take n xs) (drop n xs)) ∙ ap length (take-append-drop n xs) in
       let h = pieces-total ns (drop n xs) in
       omega arith
+
+  -- none of them has more than all together
+  pub each-short : (ls : List (List A)) → All (λ (l : List A). length l ≤ total ls) ls
+  unfolding sum
+  each-short [] = none
+  each-short (l ∷ ls) = let here : length l ≤ length l + total ls = omega arith in and here (all-so (λ k h. omega arith) (each-short ls))
 
 -- ---- lists less one element
 

@@ -19,7 +19,7 @@ module _ (s : List ℕ) (byte : getD s 2 0 < 256) (p : ℕ) where
   in-header (inl w) = let a = w .0 in let b = w .1 in omega arith
   in-header (inr w) = let a = w .1 .inside in omega arith
 
-  in-row : (row : ℕ) → getD recordConditions row never .place s ≡ at p → ((j : ℕ) → j < row → getD recordConditions j never .place s ≡ nowhere) → p ≤ longest
+  pub in-row : (row : ℕ) → getD recordConditions row never .place s ≡ at p → ((j : ℕ) → j < row → getD recordConditions j never .place s ≡ nowhere) → p ≤ longest
   in-row zero h b = in-header (refusal-2 s p .0 h)
   in-row (suc zero) h b = let e = refusal-3 s p .0 h .1 in omega arith
   in-row (suc (suc zero)) h b = let e = refusal-6-counts s p .0 h .1 in let l = few-loops s (b 1 (omega arith)) in omega arith
