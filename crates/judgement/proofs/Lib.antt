@@ -7,3 +7,4 @@ pub mod Written
 pub mod Demands
 pub mod Plain
 pub mod Strips
+pub mod Places
