@@ -31,7 +31,7 @@ use Rattle.records.proofs.Search.{when-fails, first-fails}
 use Rattle.judgement.specs.Face.{measuredIn, isWrapping, wrapping, settingIn, givenIn}
 use Rattle.judgement.specs.Judge.{allConditions, result, judge, Demand1, BandDemand}
 use Rattle.judgement.specs.Later.{laterConditions, loopIn, isOpen, openRing, oneRing, manyRings, stripPoints, longStrip}
-use Rattle.judgement.specs.Paths.{Closed, signedArea, loopsOf, wrappedLoops, uvOf, xyzOf, pathIn, resultLoops, resultIn}
+use Rattle.judgement.specs.Paths.{ResultLoop, signedArea, loopsFrom, wrappedLoops, uvOf, xyzOf, pathIn, resultLoops, resultIn}
 use Rattle.judgement.proofs.Each.{all-in, all-at, all-reverse, all-only}
 use Rattle.judgement.proofs.Loops.{measured-many, measured-some}
 use Rattle.judgement.proofs.Sizes.{only-few, only-none}
@@ -128,7 +128,7 @@ module _ (lent : ℕ) (s b : List ℕ) (h : judge lent s ≡ closed b) where
   few-corners = fine .corners
 
   -- the loops that are read from the bytes
-  read-loops : loopPositionsOf (decode b) ≡ map (λ (l : Closed). positions (l .corners)) (resultLoops s)
+  read-loops : loopPositionsOf (decode b) ≡ map (λ (l : ResultLoop). positions (l .corners)) (resultLoops s)
   unfolding resultIn
   read-loops = ap loopPositionsOf (closed-read laterConditions resultIn lent s b h can-be-written) ∙ loop-positions uvOf xyzOf (pathIn s) (resultLoops s)
 
@@ -144,8 +144,8 @@ demand-1 lent s = record {
 -- ---- demand 3
 
 -- loops have the positions of their corners, whatever their areas
-loops-of-positions : (areas : List Float) (ls : List (Corners Vec3)) → length ls ≡ length areas → map (λ (l : Closed). positions (l .corners)) (loopsOf areas ls) ≡ map positions ls
-unfolding loopsOf
+loops-of-positions : (areas : List Float) (ls : List (Corners Vec3)) → length ls ≡ length areas → map (λ (l : ResultLoop). positions (l .corners)) (loopsFrom areas ls) ≡ map positions ls
+unfolding loopsFrom
 loops-of-positions [] [] e = refl
 loops-of-positions [] (l ∷ ls) e = absurd (omega arith)
 loops-of-positions (a ∷ areas) [] e = refl
@@ -160,7 +160,7 @@ module _ (s : List ℕ) (two : wrapping s ≡ 2) where
   unfolding resultLoops
   takes-wrapped = rw (ne-eqb (loops s) 0 some-loops, ne-eqb (wrapping s) 0 (λ e. omega arith))
 
-  wrapped-positions : map (λ (l : Closed). positions (l .corners)) (wrappedLoops s)
+  wrapped-positions : map (λ (l : ResultLoop). positions (l .corners)) (wrappedLoops s)
       ≡ positions (outer (settingIn s) (givenIn s)) ∷ map positions (holes (settingIn s) (givenIn s))
   unfolding wrappedLoops
   wrapped-positions =
@@ -170,6 +170,6 @@ module _ (s : List ℕ) (two : wrapping s ≡ 2) where
 -- 01, demand 3
 pub demand-3 : (lent : ℕ) (s : List ℕ) → BandDemand lent s
 demand-3 lent s b h two =
-    let read = read-loops lent s b h ∙ ap (map (λ (l : Closed). positions (l .corners))) (takes-wrapped s two) ∙ wrapped-positions s two in
+    let read = read-loops lent s b h ∙ ap (map (λ (l : ResultLoop). positions (l .corners))) (takes-wrapped s two) ∙ wrapped-positions s two in
     subst (λ (ls : List (List Vec3)). Demand3 (settingIn s) (givenIn s) (getD ls 0 []) (drop 1 ls)) (sym read)
     (demand3 (settingIn s) (compared s) (givenIn s) (rings-whole lent s (passed lent s b h) two))

@@ -24,7 +24,7 @@ use Rattle.records.specs.Result.{All, none, and, Fits, FitsXyz}
 use Rattle.records.proofs.Accepted.{parameters-fit, positions-fit}
 use Rattle.records.proofs.Columns.{length-counts}
 use Rattle.records.proofs.Rows.{length-rowAt}
-use Rattle.judgement.specs.Face.{surfaceIn, cornersOf, cornersIn, loopsIn, wrapOf, measuredIn, isWrapping, givenIn}
+use Rattle.judgement.specs.Face.{surfaceIn, cornersFrom, cornersIn, loopsIn, wrapOf, measuredIn, isWrapping, givenIn}
 use Rattle.judgement.proofs.Doubles.{FitsCorner, FitsCorners}
 use Rattle.judgement.proofs.Each.{all-getD, all-take, all-drop, all-reverse, all-map, all-only}
 use Rattle.judgement.proofs.Rings.{EachGiven}
@@ -43,15 +43,15 @@ unfolding pieces
 map-pieces f [] xs = refl
 map-pieces f (n ∷ ns) xs = λ i. map-take f n xs i ∷ (map-pieces f ns (drop n xs) ∙ ap (pieces ns) (map-drop f n xs)) i
 
-pub corners-fit : {us vs : List Float} {ps : List Vec3} → All Fits us → All Fits vs → All FitsXyz ps → FitsCorners (cornersOf us vs ps)
-unfolding cornersOf
+pub corners-fit : {us vs : List Float} {ps : List Vec3} → All Fits us → All Fits vs → All FitsXyz ps → FitsCorners (cornersFrom us vs ps)
+unfolding cornersFrom
 corners-fit none hv hp = none
 corners-fit (and hu us) none hp = none
 corners-fit (and hu us) (and hv vs) none = none
 corners-fit (and hu us) (and hv vs) (and hp ps) = and (record { u = hu; v = hv; at = hp }) (corners-fit us vs ps)
 
-pub positions-of : {A : Type 0} (us vs : List Float) (ps : List A) → length us ≡ length ps → length vs ≡ length ps → positions (cornersOf us vs ps) ≡ ps
-unfolding cornersOf
+pub positions-of : {A : Type 0} (us vs : List Float) (ps : List A) → length us ≡ length ps → length vs ≡ length ps → positions (cornersFrom us vs ps) ≡ ps
+unfolding cornersFrom
 positions-of [] vs [] e f = refl
 positions-of [] vs (p ∷ ps) e f = absurd (omega arith)
 positions-of (u ∷ us) vs [] e f = absurd (omega arith)

@@ -12,7 +12,7 @@ use Rattle.regions.specs.Outer.{holesOf}
 use Rattle.bands.specs.Given.{only}
 use Rattle.records.specs.Bytes.{sum}
 use Rattle.records.specs.Result.{All, none, and, Short}
-use Rattle.judgement.specs.Face.{cornersOf}
+use Rattle.judgement.specs.Face.{cornersFrom}
 use Rattle.judgement.proofs.Each.{all-so}
 
 module _ {A : Type 0} where
@@ -94,8 +94,8 @@ module _ {A : Type 0} where
 
 -- ---- corners and counts
 
-pub corners-few : {A : Type 0} (us vs : List Float) (ps : List A) → length (cornersOf us vs ps) ≤ length ps
-unfolding cornersOf
+pub corners-few : {A : Type 0} (us vs : List Float) (ps : List A) → length (cornersFrom us vs ps) ≤ length ps
+unfolding cornersFrom
 corners-few [] vs ps = omega arith
 corners-few (u ∷ us) [] ps = omega arith
 corners-few (u ∷ us) (v ∷ vs) [] = omega arith

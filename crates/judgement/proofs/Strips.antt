@@ -39,7 +39,7 @@ use Rattle.records.specs.Limits.{64·0, 10^6, cone, finite, holds, upTo, vRange
 use Rattle.records.specs.Result.{All, none, and}
 use Rattle.records.specs.Values.{bounds}
 use Rattle.records.proofs.Accepted.{parameters-in-range}
-use Rattle.judgement.specs.Face.{surfaceOf, surfaceIn, optionsIn, cornersOf, cornersIn, loopsIn, measuredIn, isWrapping, settingIn, givenIn}
+use Rattle.judgement.specs.Face.{surfaceOf, surfaceIn, optionsIn, cornersFrom, cornersIn, loopsIn, measuredIn, isWrapping, settingIn, givenIn}
 use Rattle.judgement.specs.Later.{stripPoints}
 use Rattle.judgement.proofs.Each.{all-first, all-rest, all-getD, all-reverse, all-map, all-only}
 use Rattle.judgement.proofs.Loops.{all-pieces, given-each, measured-short}
@@ -135,8 +135,8 @@ module _ (s : List ℕ) (a : Accepted s) where
   unfolding vRange
   low-v v h past = within-64 v (ap (λ (t : Bool). holds (cond t (upTo 10^6) (upTo 64·0)) v) (sym (lt-leb (kind s) cone past)) ∙ h)
 
-  corners-low : (us vs : List Float) (ps : List Vec3) → All Low vs → All (λ (c : Corner Vec3). Low (c .v)) (cornersOf us vs ps)
-  unfolding cornersOf
+  corners-low : (us vs : List Float) (ps : List Vec3) → All Low vs → All (λ (c : Corner Vec3). Low (c .v)) (cornersFrom us vs ps)
+  unfolding cornersFrom
   corners-low [] vs ps h = none
   corners-low (u ∷ us) [] ps h = none
   corners-low (u ∷ us) (v ∷ vs) [] h = none

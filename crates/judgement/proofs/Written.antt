@@ -39,7 +39,7 @@ use Rattle.records.proofs.Pieces.{writable}
 use Rattle.judgement.specs.Face.{frameIn, surfaceIn, optionsIn, uPeriodIn, vPeriodIn, loopsIn, wrapping, settingIn, givenIn}
 use Rattle.judgement.specs.Face as Face
 use Rattle.judgement.specs.Later.{stripPoints}
-use Rattle.judgement.specs.Paths.{Closed, signedArea, measured, outerNumber, outerLoop, branchOf, rephasedHole, closedLoops, loopsOf, wrappedLoops, wholeLoop, uvOf, xyzOf, pathIn, resultLoops, resultIn}
+use Rattle.judgement.specs.Paths.{ResultLoop, signedArea, withArea, outerNumber, outerLoop, branchOf, rephasedHole, closedLoops, loopsFrom, wrappedLoops, wholeLoop, uvOf, xyzOf, pathIn, resultLoops, resultIn}
 use Rattle.judgement.proofs.Doubles.{FitsCorners, point-fits, rungs-fit, area-fits, outer-fits, holes-fit}
 use Rattle.judgement.proofs.Each.{all-getD, all-append, all-take, all-drop, all-dropLast, all-reverse, all-map}
 use Rattle.judgement.proofs.Loops.{corners-fit, loops-many, loops-total, loops-fit, given-fits, holes-many, holes-points}
@@ -47,27 +47,27 @@ use Rattle.judgement.proofs.Sizes.{total, holes-few, holes-total, corne
 
 -- ---- loops of doubles
 
-pub record FitsLoop (l : Closed) : Type 0 where
+pub record FitsLoop (l : ResultLoop) : Type 0 where
   pub area : Fits (l .area)
   pub corners : FitsCorners (l .corners)
 
-measured-fits : (r : Corners Vec3) → FitsCorners r → FitsLoop (measured r)
-measured-fits r h = record { area = area-fits (us r) (vs r); corners = h }
+with-area-fits : (r : Corners Vec3) → FitsCorners r → FitsLoop (withArea r)
+with-area-fits r h = record { area = area-fits (us r) (vs r); corners = h }
 
-all-corners : {ls : List Closed} → All FitsLoop ls → FitsCorners (cornersOf ls)
+all-corners : {ls : List ResultLoop} → All FitsLoop ls → FitsCorners (cornersOf ls)
 unfolding cornersOf
 all-corners none = none
 all-corners (and h hs) = all-append (h .corners) (all-corners hs)
 
 -- ---- what can be written: within the limits, an outer loop and at most 16 holes with the corners of a strip and of all given points
 
-pub record Fine (ls : List Closed) : Type 0 where
+pub record Fine (ls : List ResultLoop) : Type 0 where
   pub some : 1 ≤ length ls
   pub few : length ls ≤ maxLoops + 1
   pub corners : sum (map countOf ls) ≤ maxStrip + maxPoints
   pub fit : All FitsLoop ls
 
-fine-writable : (path : ℕ) (ls : List Closed) → Fine ls → Writable (resultOf uvOf xyzOf path ls)
+fine-writable : (path : ℕ) (ls : List ResultLoop) → Fine ls → Writable (resultOf uvOf xyzOf path ls)
 fine-writable path ls f =
     let n = f .few in
     let c = f .corners in
@@ -146,25 +146,25 @@ module _ (s : List ℕ) (loops-are : loops s ≤ maxLoops) (points-are : points 
         some = omega arith;
         few = omega arith;
         corners = omega arith;
-        fit = and (measured-fits (outerLoop (loopsIn s)) (all-getD (loops-fit s) n [] none)) (all-map (rephasedHole b) (hole-fits b) (rest-fits n));
+        fit = and (with-area-fits (outerLoop (loopsIn s)) (all-getD (loops-fit s) n [] none)) (all-map (rephasedHole b) (hole-fits b) (rest-fits n));
       }
 
 -- ---- bands
 
-loops-of-few : (areas : List Float) (ls : List (Corners Vec3)) → length (loopsOf areas ls) ≤ length ls
-unfolding loopsOf
+loops-of-few : (areas : List Float) (ls : List (Corners Vec3)) → length (loopsFrom areas ls) ≤ length ls
+unfolding loopsFrom
 loops-of-few [] ls = omega arith
 loops-of-few (a ∷ areas) [] = omega arith
 loops-of-few (a ∷ areas) (l ∷ ls) = let h = loops-of-few areas ls in omega arith
 
-loops-of-counts : (areas : List Float) (ls : List (Corners Vec3)) → sum (map countOf (loopsOf areas ls)) ≤ total ls
-unfolding loopsOf sum
+loops-of-counts : (areas : List Float) (ls : List (Corners Vec3)) → sum (map countOf (loopsFrom areas ls)) ≤ total ls
+unfolding loopsFrom sum
 loops-of-counts [] ls = omega arith
 loops-of-counts (a ∷ areas) [] = omega arith
 loops-of-counts (a ∷ areas) (l ∷ ls) = let h = loops-of-counts areas ls in omega arith
 
-loops-of-fit : {areas : List Float} {ls : List (Corners Vec3)} → All Fits areas → All FitsCorners ls → All FitsLoop (loopsOf areas ls)
-unfolding loopsOf
+loops-of-fit : {areas : List Float} {ls : List (Corners Vec3)} → All Fits areas → All FitsCorners ls → All FitsLoop (loopsFrom areas ls)
+unfolding loopsFrom
 loops-of-fit none hs = none
 loops-of-fit (and a areas) none = none
 loops-of-fit (and a areas) (and h hs) = and (record { area = a; corners = h }) (loops-of-fit areas hs)
@@ -216,7 +216,7 @@ module _ (s : List ℕ) (loops-are : loops s ≤ maxLoops) (points-are : points 
         some = omega arith;
         few = omega arith;
         corners = omega arith;
-        fit = and (measured-fits (outer (settingIn s) (givenIn s)) (outer-fits (settingIn s) (points-fit s) (ladders-fit s) (givenIn s) (given-fits s)))
+        fit = and (with-area-fits (outer (settingIn s) (givenIn s)) (outer-fits (settingIn s) (points-fit s) (ladders-fit s) (givenIn s) (given-fits s)))
             (loops-of-fit (all-map signedArea (λ r h. area-fits (us r) (vs r)) (given-fits s .holes)) (holes-fit (settingIn s) (points-fit s) (ladders-fit s) (givenIn s) (given-fits s)));
       }
 

@@ -70,15 +70,15 @@ vPeriodIn s = periodLength (vPeriod (surfaceIn s))
 -- ---- the loops
 
 -- corners of which the u, the v and the positions are given
-unfoldable pub cornersOf : {A : Type 0} → List Float → List Float → List A → Corners A
-cornersOf [] vs ps = []
-cornersOf (u ∷ us) [] ps = []
-cornersOf (u ∷ us) (v ∷ vs) [] = []
-cornersOf (u ∷ us) (v ∷ vs) (p ∷ ps) = record { u = u; v = v; at = p } ∷ cornersOf us vs ps
+unfoldable pub cornersFrom : {A : Type 0} → List Float → List Float → List A → Corners A
+cornersFrom [] vs ps = []
+cornersFrom (u ∷ us) [] ps = []
+cornersFrom (u ∷ us) (v ∷ vs) [] = []
+cornersFrom (u ∷ us) (v ∷ vs) (p ∷ ps) = record { u = u; v = v; at = p } ∷ cornersFrom us vs ps
 
 -- "Then all (u, v), then all (x, y, z)."
 unfoldable pub cornersIn : List ℕ → Corners Vec3
-cornersIn s = cornersOf (map uOf (parameters s)) (map vOf (parameters s)) (positions s)
+cornersIn s = cornersFrom (map uOf (parameters s)) (map vOf (parameters s)) (positions s)
 
 -- "Then L two-byte counts": the loops in file order
 unfoldable pub loopsIn : List ℕ → List (Corners Vec3)

@@ -41,12 +41,12 @@ pub record Demand1 (lent : ℕ) (s : List ℕ) : Type 0 where
 -- ---- demand 3
 
 -- the positions that are read from the bytes of a result record: those of the outer loop, and those of the holes
-abbrev pub outerIn : List ℕ → List Vec3
-outerIn b = getD (loopPositionsOf (decode b)) 0 []
+abbrev pub outerPositions : List ℕ → List Vec3
+outerPositions b = getD (loopPositionsOf (decode b)) 0 []
 
-abbrev pub holesOf : List ℕ → List (List Vec3)
-holesOf b = drop 1 (loopPositionsOf (decode b))
+abbrev pub holePositions : List ℕ → List (List Vec3)
+holePositions b = drop 1 (loopPositionsOf (decode b))
 
 -- 01, "Bands": "Demand 3 is a single claim about a returned band and its strip": of every face that is closed and of which two loops wrap
 abbrev pub BandDemand : ℕ → List ℕ → Type 0
-BandDemand lent s = (b : List ℕ) → judge lent s ≡ closed b → wrapping s ≡ 2 → Demand3 (settingIn s) (givenIn s) (outerIn b) (holesOf b)
+BandDemand lent s = (b : List ℕ) → judge lent s ≡ closed b → wrapping s ≡ 2 → Demand3 (settingIn s) (givenIn s) (outerPositions b) (holePositions b)

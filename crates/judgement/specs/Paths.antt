@@ -20,13 +20,13 @@ use Rattle.bands.specs.Corners.{Corner, Corners, us, vs, positions}
 use Rattle.records.specs.Bytes.{_=?_}
 use Rattle.records.specs.Face.{loops}
 use Rattle.records.specs.Result.{Result, Loop, resultOf}
-use Rattle.judgement.specs.Face.{frameIn, surfaceIn, optionsIn, uPeriodIn, vPeriodIn, cornersOf, loopsIn, wrapping, settingIn, givenIn}
+use Rattle.judgement.specs.Face.{frameIn, surfaceIn, optionsIn, uPeriodIn, vPeriodIn, cornersFrom, loopsIn, wrapping, settingIn, givenIn}
 
 -- a loop of the result, with the corners' parameters and positions
-abbrev pub Closed : Type 0
-Closed = Loop (Corner Vec3)
+abbrev pub ResultLoop : Type 0
+ResultLoop = Loop (Corner Vec3)
 
-abbrev pub loopOf : Float → Corners Vec3 → Closed
+abbrev pub loopOf : Float → Corners Vec3 → ResultLoop
 loopOf area corners = record { area = area; corners = corners }
 
 -- 01, "Closed faces": `signed_area` of a loop's parameters
@@ -34,8 +34,8 @@ abbrev pub signedArea : Corners Vec3 → Float
 signedArea r = areaOf (us r) (vs r)
 
 -- a loop with the area of its own parameters
-abbrev pub measured : Corners Vec3 → Closed
-measured r = loopOf (signedArea r) r
+abbrev pub withArea : Corners Vec3 → ResultLoop
+withArea r = loopOf (signedArea r) r
 
 -- ---- 01, "Closed faces"
 
@@ -54,34 +54,34 @@ abbrev pub branchOf : Float → Float → Corners Vec3 → Branch
 branchOf uperiod vperiod r = record { umid = middleOf (us r); vmid = middleOf (vs r); uperiod = uperiod; vperiod = vperiod }
 
 -- holes "are then moved by whole periods, middle to middle; a moved hole's area is worked out anew"; their positions stay
-unfoldable pub rephasedHole : Branch → Corners Vec3 → Closed
+unfoldable pub rephasedHole : Branch → Corners Vec3 → ResultLoop
 rephasedHole b r =
     let hole = rephased b (record { us = us r; vs = vs r; area = signedArea r }) in
-    loopOf (hole .area) (cornersOf (hole .us) (hole .vs) (positions r))
+    loopOf (hole .area) (cornersFrom (hole .us) (hole .vs) (positions r))
 
 -- "Holes keep their order"
-unfoldable pub closedLoops : Float → Float → List (Corners Vec3) → List Closed
+unfoldable pub closedLoops : Float → Float → List (Corners Vec3) → List ResultLoop
 closedLoops uperiod vperiod ls =
     let first = outerLoop ls in
-    measured first ∷ map (rephasedHole (branchOf uperiod vperiod first)) (holesOf (outerNumber ls) ls)
+    withArea first ∷ map (rephasedHole (branchOf uperiod vperiod first)) (holesOf (outerNumber ls) ls)
 
 -- ---- 01, "Bands"
 
 -- loops of which the areas and the corners are given
-unfoldable pub loopsOf : List Float → List (Corners Vec3) → List Closed
-loopsOf [] ls = []
-loopsOf (a ∷ areas) [] = []
-loopsOf (a ∷ areas) (l ∷ ls) = loopOf a l ∷ loopsOf areas ls
+unfoldable pub loopsFrom : List Float → List (Corners Vec3) → List ResultLoop
+loopsFrom [] ls = []
+loopsFrom (a ∷ areas) [] = []
+loopsFrom (a ∷ areas) (l ∷ ls) = loopOf a l ∷ loopsFrom areas ls
 
 -- "the band is the strip less the repeats of item 5"; "Hole areas stay as computed before `reseam` moved the hole."
-unfoldable pub wrappedLoops : List ℕ → List Closed
+unfoldable pub wrappedLoops : List ℕ → List ResultLoop
 wrappedLoops s =
-    measured (outer (settingIn s) (givenIn s))
-    ∷ loopsOf (map signedArea (givenIn s .holes)) (holes (settingIn s) (givenIn s))
+    withArea (outer (settingIn s) (givenIn s))
+    ∷ loopsFrom (map signedArea (givenIn s .holes)) (holes (settingIn s) (givenIn s))
 
 -- ---- 01, "Whole surfaces"
 
-unfoldable pub wholeLoop : List ℕ → Closed
+unfoldable pub wholeLoop : List ℕ → ResultLoop
 wholeLoop s =
     loopOf (wholeArea (surfaceIn s) (optionsIn s))
     (map (λ (c : Vec2). record { u = c .u; v = c .v; at = positionOf (surfaceIn s) (frameIn s) c }) (wholeCorners (surfaceIn s) (optionsIn s)))
@@ -98,7 +98,7 @@ xyzOf c = c .at
 unfoldable pub pathIn : List ℕ → ℕ
 pathIn s = cond (loops s =? 0) 2 (cond (wrapping s =? 0) 0 1)
 
-unfoldable pub resultLoops : List ℕ → List Closed
+unfoldable pub resultLoops : List ℕ → List ResultLoop
 resultLoops s =
     cond (loops s =? 0) (wholeLoop s ∷ [])
     (cond (wrapping s =? 0) (closedLoops (uPeriodIn s) (vPeriodIn s) (loopsIn s)) (wrappedLoops s))

@@ -1,5 +1,5 @@
--- Values of the whole call, computed: 01, "Values to hold", the triangle and the longest strip; a small band; a whole sphere; a record for each of the
--- refusals 8 to 12.
+-- Values of the whole call, computed: 01, "Values to hold", the triangle and the longest strip; a small band, with and without a hole; a closed face
+-- with a hole; a whole sphere; a record for each of the refusals 8 to 12.
 use mathlib.Core.Path.{_≡_, refl}
 use mathlib.Core.Bool.{true}
 use mathlib.Core.List.{List, [], _∷_, _++_}
@@ -31,6 +31,7 @@ use Rattle.loops.specs.Span.{leastOf, greatestOf, middleOf}
 use Rattle.loops.specs.Steps.{net, netOf, count, stepsRound, stepsAlong}
 use Rattle.loops.specs.Wrap.{netWrap, turnsCounted}
 use Rattle.regions.specs.Outer.{outerOf, slackOf, encloses, every, passing, enclosesOther, enclosesOthers, enclosingOne, lastLargest, holesOf}
+use Rattle.regions.specs.Rephase.{shiftOf, moved, rephased}
 use Rattle.rings.specs.Choices.{leastU, greatestU, stripShift, straddles, nearest, firstLeast, firstFrom as startFrom, serve, beginsBackward, standsAtTheCut}
 use Rattle.rings.specs.Starts.{alignedU, slidU, firstFor, laterFor, serves, firstServing, start as startOf}
 use Rattle.rings.specs.Turns.{unlessZero, beginRingAt, turnedOnto, alignAt}
@@ -47,10 +48,10 @@ use Rattle.records.specs.Limits.{0·0, 0·001, 1·5, holds, headRange, radius, 
 use Rattle.records.specs.Refusals.{passes, verdict, firstFrom, tooFewLent, wrongByte, wrongHeader, tooManyLoops, endsInCounts, tooFewPoints, tooManyPoints, wrongLength, badReal, firstBadReal}
 use Rattle.records.specs.Result.{encode, decode, countsIn, cornersIn as cornersBack, resultOf, cornersOf as together, loopPositionsOf}
 use Rattle.records.specs.Values.{triangle, written}
-use Rattle.judgement.specs.Face.{frameIn, surfaceOf, surfaceIn, optionsIn, senseIn, cornersOf, cornersIn, loopsIn, measuredIn, wrapping, settingIn, givenIn}
+use Rattle.judgement.specs.Face.{frameIn, surfaceOf, surfaceIn, optionsIn, senseIn, cornersFrom, cornersIn, loopsIn, measuredIn, wrapping, settingIn, givenIn}
 use Rattle.judgement.specs.Later.{loopIn, openRing, oneRing, manyRings, openSurface, stripPoints, longStrip}
-use Rattle.judgement.specs.Paths.{outerNumber, outerLoop, closedLoops, loopsOf, wrappedLoops, wholeLoop, pathIn, resultLoops, resultIn}
-use Rattle.judgement.specs.Judge.{allConditions, judge, outerIn}
+use Rattle.judgement.specs.Paths.{outerNumber, outerLoop, rephasedHole, closedLoops, loopsFrom, wrappedLoops, wholeLoop, pathIn, resultLoops, resultIn}
+use Rattle.judgement.specs.Judge.{allConditions, judge, outerPositions}
 
 -- ---- parts of records
 
@@ -97,23 +98,43 @@ band = (1 ∷ 1 ∷ 2 ∷ 1 ∷ 1 ∷ 4 ∷ 0 ∷ 4 ∷ 0 ∷ []) ++ row real (h
 abbrev pub bandWritten : List ℕ
 bandWritten = (1 ∷ 1 ∷ 0 ∷ 0 ∷ 8 ∷ 0 ∷ []) ++ row real (TAU ∷ risingUv 0·0 ++ (fallingUv one ++ (risingXyz 0·0 ++ fallingXyz one)))
 
--- the same band with its loops the other way and in the other order, and with a hole that lies a turn too far: u 7, 7, 8
+-- a hole that lies a turn too far, and brought back
+abbrev holeUv : List Float
+holeUv = whole 7 ∷ 0·5085 ∷ whole 7 ∷ 0·0 ∷ whole 8 ∷ 0·0 ∷ []
+
+abbrev holeBack : List Float
+holeBack = (whole 7 ⊖ TAU) ∷ 0·5085 ∷ (whole 7 ⊖ TAU) ∷ 0·0 ∷ (whole 8 ⊖ TAU) ∷ 0·0 ∷ []
+
 abbrev holeXyz : List Float
 holeXyz = one ∷ one ∷ 0·0 ∷ one ∷ one ∷ one ∷ 0·0 ∷ 0·0 ∷ one ∷ []
 
+-- the same band with that hole, and with its rings the other way and in the other order
 abbrev bored : List ℕ
 bored =
     (1 ∷ 1 ∷ 3 ∷ 1 ∷ 1 ∷ 4 ∷ 0 ∷ 3 ∷ 0 ∷ 4 ∷ 0 ∷ [])
-    ++ row real (head 1·5 ++ (
-    risingUv one ++ ((whole 7 ∷ 0·5085 ∷ whole 7 ∷ 0·0 ∷ whole 8 ∷ 0·0 ∷ []) ++ (fallingUv 0·0 ++ (risingXyz one ++ (holeXyz ++ fallingXyz 0·0))))))
+    ++ row real (head 1·5 ++ (risingUv one ++ (holeUv ++ (fallingUv 0·0 ++ (risingXyz one ++ (holeXyz ++ fallingXyz 0·0))))))
 
--- The hole is brought back; its area is that of u 7, 7, 8. Worked out anew it would be 0x3fd0_45a1_cac0_8312.
+-- the area of the hole is that of u 7, 7, 8; worked out anew its last digit would be 2
 abbrev boredWritten : List ℕ
 boredWritten =
     (1 ∷ 1 ∷ 1 ∷ 0 ∷ 8 ∷ 0 ∷ 3 ∷ 0 ∷ [])
-    ++ row real (TAU ∷ ofBits binary64 0x3fd0_45a1_cac0_8310 ∷
-    risingUv 0·0 ++ (fallingUv one
-    ++ (((whole 7 ⊖ TAU) ∷ 0·5085 ∷ (whole 7 ⊖ TAU) ∷ 0·0 ∷ (whole 8 ⊖ TAU) ∷ 0·0 ∷ []) ++ (risingXyz 0·0 ++ (fallingXyz one ++ holeXyz)))))
+    ++ row real (TAU ∷ ofBits binary64 0x3fd0_45a1_cac0_8310 ∷ risingUv 0·0 ++ (fallingUv one ++ (holeBack ++ (risingXyz 0·0 ++ (fallingXyz one ++ holeXyz)))))
+
+-- a cylinder's patch from u 0 to 3 and v 0 to 1 with the same hole, which stands first in the file
+abbrev patchUv : List Float
+patchUv = 0·0 ∷ 0·0 ∷ whole 3 ∷ 0·0 ∷ whole 3 ∷ one ∷ 0·0 ∷ one ∷ []
+
+abbrev patchXyz : List Float
+patchXyz = one ∷ 0·0 ∷ 0·0 ∷ -1·0 ∷ 0·0 ∷ 0·0 ∷ -1·0 ∷ 0·0 ∷ one ∷ one ∷ 0·0 ∷ one ∷ []
+
+abbrev patch : List ℕ
+patch = (1 ∷ 1 ∷ 2 ∷ 1 ∷ 1 ∷ 3 ∷ 0 ∷ 4 ∷ 0 ∷ []) ++ row real (head 1·5 ++ (holeUv ++ (patchUv ++ (holeXyz ++ patchXyz))))
+
+-- the outer loop stands first, and the area of the moved hole is worked out anew
+abbrev patchWritten : List ℕ
+patchWritten =
+    (1 ∷ 0 ∷ 1 ∷ 0 ∷ 4 ∷ 0 ∷ 3 ∷ 0 ∷ [])
+    ++ row real (whole 3 ∷ ofBits binary64 0x3fd0_45a1_cac0_8312 ∷ patchUv ++ (holeBack ++ (patchXyz ++ holeXyz)))
 
 -- three rings in one place
 abbrev threeRings : List ℕ
@@ -141,6 +162,7 @@ pub record Answers : Type 0 where
   -- "231 bytes in; 134 out"
   pub triangle-closed : judge 61614 triangle ≡ closed written
   pub band-closed : judge 61614 band ≡ closed bandWritten
+  pub patch-closed : judge 61614 patch ≡ closed patchWritten
   pub bored-closed : judge 61614 bored ≡ closed boredWritten
   -- The last position of loop 0 stands in the bytes 313 to 336, that of loop 1 in 409 to 432. With a y of -0.0 the last is still the first, as numbers; with
   -- an x of -1.0 it is not.
@@ -162,10 +184,11 @@ pub record Answers : Type 0 where
   pub strip-refused : judge 61614 strip1025 ≡ refused 12 1025
 
 pub answers : Answers
-unfolding Call.judge verdict tooFewLent wrongByte wrongHeader tooManyLoops endsInCounts tooFewPoints tooManyPoints wrongLength badReal firstBadReal firstFrom number numberAt realAt start bytes real row holds headRange radius second uvRange uRange vRange range ofBits ofFields odd toBits le lt eq neg surfaceOf surfaceIn cornersOf cornersIn loopsIn measuredIn wrapping loopIn openRing oneRing manyRings openSurface longStrip outerNumber outerLoop closedLoops pathIn resultLoops resultIn encode resultOf together uv xyz uvAt xyzAt rowAt sum counts parameters positions pieces only uPeriod vPeriod outerOf slackOf encloses every passing enclosesOther enclosesOthers enclosingOne lastLargest holesOf areaOf crossSum crossAt leastOf greatestOf middleOf absOf add sub mul div ofInt netWrap turnsCounted toSigned roundAway endsMeet same stripPoints settingIn givenIn optionsIn senseIn givenOf stripOf strip heights ladder lowerRing upperRing lowerFirst firstIsLower lift joined laid rising shifted leastU greatestU reseam hasStrip acrossSeam onStrip anyStraddles started startOf firstServing startFrom serves serve firstFor laterFor alignedU slidU beginsBackward standsAtTheCut trial beginRingAt alignCuts alignAt turnedOnto nearest firstLeast slideToCut unlessZero turned begun ringClosed meanOf sumOf onto stripShift straddles floorOf ne inner rungs keptAfter near rungSlack divisionsFrom division vStepsOf outer holes dropMerging dropSuccessive dropTrailing keptFrom cutBack loopsOf wrappedLoops segmentsOf angleStepOf sagAngle ceilOf toUnsigned wholeLoop wholeCorners sidesOf sides uRungs vRungs uSteps vSteps directionStepsOf domainOf sincosOf
+unfolding Call.judge verdict tooFewLent wrongByte wrongHeader tooManyLoops endsInCounts tooFewPoints tooManyPoints wrongLength badReal firstBadReal firstFrom number numberAt realAt start bytes real row holds headRange radius second uvRange uRange vRange range ofBits ofFields odd toBits le lt eq neg surfaceOf surfaceIn cornersFrom cornersIn loopsIn measuredIn wrapping loopIn openRing oneRing manyRings openSurface longStrip outerNumber outerLoop closedLoops pathIn resultLoops resultIn encode resultOf together uv xyz uvAt xyzAt rowAt sum counts parameters positions pieces only uPeriod vPeriod outerOf slackOf encloses every passing enclosesOther enclosesOthers enclosingOne lastLargest holesOf rephasedHole rephased moved shiftOf areaOf crossSum crossAt leastOf greatestOf middleOf absOf add sub mul div ofInt netWrap turnsCounted toSigned roundAway endsMeet same stripPoints settingIn givenIn optionsIn senseIn givenOf stripOf strip heights ladder lowerRing upperRing lowerFirst firstIsLower lift joined laid rising shifted leastU greatestU reseam hasStrip acrossSeam onStrip anyStraddles started startOf firstServing startFrom serves serve firstFor laterFor alignedU slidU beginsBackward standsAtTheCut trial beginRingAt alignCuts alignAt turnedOnto nearest firstLeast slideToCut unlessZero turned begun ringClosed meanOf sumOf onto stripShift straddles floorOf ne inner rungs keptAfter near rungSlack divisionsFrom division vStepsOf outer holes dropMerging dropSuccessive dropTrailing keptFrom cutBack loopsFrom wrappedLoops segmentsOf angleStepOf sagAngle ceilOf toUnsigned wholeLoop wholeCorners sidesOf sides uRungs vRungs uSteps vSteps directionStepsOf domainOf sincosOf
 answers = record {
   triangle-closed = refl;
   band-closed = refl;
+  patch-closed = refl;
   bored-closed = refl;
   zero-as-number = refl;
   loop-0-open = refl;
@@ -182,7 +205,7 @@ answers = record {
 }
 
 -- Round the band, as it is read from those bytes, one step more leads from the first position of the lower ring to its second than back.
-pub band-steps : net same (record { x = one; y = 0·0; z = 0·0 }) (record { x = 0·0; y = one; z = 0·0 }) (outerIn bandWritten) ≡ pos 1
+pub band-steps : net same (record { x = one; y = 0·0; z = 0·0 }) (record { x = 0·0; y = one; z = 0·0 }) (outerPositions bandWritten) ≡ pos 1
 unfolding net netOf count stepsRound stepsAlong same loopPositionsOf pieces decode countsIn cornersBack row rowAt sum number numberAt bytes real realAt uvAt xyzAt ofBits ofFields odd toBits eq
 band-steps = refl
 
