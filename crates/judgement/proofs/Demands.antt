@@ -19,12 +19,12 @@ use Rattle.bands.specs.Demand.{Demand3}
 use Rattle.bands.specs.Given.{Measured, only, givenOf}
 use Rattle.bands.proofs.Demand.{Whole, demand3}
 use Rattle.records.specs.Bytes.{sum, _<?_}
-use Rattle.records.specs.Call.{closed}
+use Rattle.records.specs.Call.{closed, lentAfter}
 use Rattle.records.specs.Face.{loops}
 use Rattle.records.specs.Limits.{maxLoops, maxPoints, maxStrip}
 use Rattle.records.specs.Refusals.{nowhere, firstWhere, NoneHolds}
 use Rattle.records.specs.Result.{All, Writable, decode, loopPositionsOf, countOf, resultOf}
-use Rattle.records.proofs.Closing.{closed-accepted, closed-read, closed-length, closed-fits}
+use Rattle.records.proofs.Closing.{closed-accepted, closed-read, closed-length, closed-fits, lent-stays}
 use Rattle.records.proofs.Pieces.{loop-positions}
 use Rattle.records.proofs.Refused.{refused-exactly, closed-exactly}
 use Rattle.records.proofs.Search.{when-fails, first-fails}
@@ -140,6 +140,10 @@ demand-1 lent s = record {
   length-is = λ b h. closed-length laterConditions resultIn lent s b h (can-be-written lent s b h);
   fits = λ b h. closed-fits laterConditions resultIn lent s b h (can-be-written lent s b h) (few-loops lent s b h) (few-corners lent s b h);
 }
+
+-- the lent bytes keep their number
+pub lent-kept : (lent : ℕ) (s b : List ℕ) → judge lent s ≡ closed b → (old : List ℕ) → length old ≡ lent → length (lentAfter (closed b) old) ≡ lent
+lent-kept lent s b h = lent-stays laterConditions resultIn lent s b h (can-be-written lent s b h) (few-loops lent s b h) (few-corners lent s b h)
 
 -- ---- demand 3
 
