@@ -17,7 +17,8 @@ use Rattle.bands.specs.Band.{outer, holes}
 use Rattle.bands.specs.Corners.{Corners, positions}
 use Rattle.bands.specs.Demand.{Demand3}
 use Rattle.bands.specs.Given.{Measured, only, givenOf}
-use Rattle.bands.proofs.Demand.{Whole, demand3}
+use Rattle.bands.proofs.Demand.{demand3}
+use Rattle.bands.specs.Demand.{Whole}
 use Rattle.records.specs.Bytes.{sum, _<?_}
 use Rattle.records.specs.Call.{closed, lentAfter}
 use Rattle.records.specs.Face.{loops}
@@ -98,7 +99,7 @@ module _ (lent : ℕ) (s : List ℕ) (none : NoneHolds (allConditions lent) s) w
     ring-meets : (k : ℕ) → k < 2 → endsMeet same (positions (getD rings k bare .corners)) ≡ true
     ring-meets k h = let n = rings-long in all-in (all-reverse (all-only isWrapping (λ m e f. f e) loops-meet)) k bare (omega arith)
 
-    rings-whole : Whole (settingIn s) (compared s) (givenIn s)
+    rings-whole : Whole (settingIn s) (givenIn s)
     unfolding settingIn givenIn givenOf
     rings-whole = record {
       some-first = ring-some 0 (omega arith);

@@ -71,7 +71,7 @@ lift-fits (Every p) withL withU meanL meanU v h = at-lift (withL && (not withU &
     at-lift false = h
 
 module _ (S : Setting Vec3) (points : (u v : Float) → FitsXyz (S .pointAt u v)) (ladders : (lo hi : Float) (n : ℕ) → All Fits (S .rungs lo hi n)) where
-  heights-fit : (a b : Float) → All Fits (heights S a b)
+  heights-fit : (a b : Float) → All Fits (heights (S .rungs) (S .steps) a b)
   unfolding heights ladder inner
   heights-fit a b =
       let rungs-are = all-dropLast (drop 1 (S .rungs _ _ _)) (all-drop 1 (ladders _ _ _)) in

@@ -108,12 +108,12 @@ arc s x y o few h k =
 
 -- where the walls are short, so is the strip
 strip-few : (S : Setting Vec3) (n : ℕ) {Q R : Corner Vec3 → Type 0} (lower upper : Corners Vec3) → All Q lower → All R upper
-    → ((l u : Corner Vec3) → Q l → R u → length (heights S (l .v) (u .v)) ≤ n) → length (strip S lower upper) ≤ length lower + length upper + 2 + 2 * n
+    → ((l u : Corner Vec3) → Q l → R u → length (heights (S .rungs) (S .steps) (l .v) (u .v)) ≤ n) → length (strip S lower upper) ≤ length lower + length upper + 2 + 2 * n
 unfolding strip
 strip-few S n [] upper p q few = let e = length-reverse upper in omega arith
 strip-few S n (l ∷ lower) [] p q few = omega arith
 strip-few S n (l ∷ lower) (u ∷ upper) p q few =
-    let up : List Float = heights S (l .v) (u .v) in
+    let up : List Float = heights (S .rungs) (S .steps) (l .v) (u .v) in
     let one : Corners Vec3 = wall S (l .u) (l .u ⊕ S .period) up in
     let other : Corners Vec3 = wall S (l .u) (l .u) up in
     let short = few l u (all-first p) (all-first q) in
@@ -157,7 +157,7 @@ module _ (s : List ℕ) (a : Accepted s) where
           omega arith
       go false e = let past = leb-false (kind s) cone e in arc (surfaceIn s) x y (optionsIn s) (a .few-segments) (h past) (k past)
 
-  heights-few : (x y : Float) → High x → High y → length (heights (settingIn s) x y) ≤ 141999
+  heights-few : (x y : Float) → High x → High y → length (heights (settingIn s .rungs) (settingIn s .steps) x y) ≤ 141999
   unfolding heights ladder settingIn
   heights-few x y h k = pick (le x y)
     where
