@@ -1,0 +1,1 @@
+// What parallel slices hold of a face and of its result: definitions alone.
