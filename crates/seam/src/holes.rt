@@ -2,7 +2,7 @@
 // past the end, a hole is what is left.
 ghost use mathlib.Core.Path.{_≡_};
 ghost use mathlib.Core.List.{map};
-ghost use Prim.Native.Nat.{_+_, _-_, _≤_, min};
+ghost use Prim.Native.Nat.{_-_, _≤_};
 ghost use lib.ListN.{length, take, drop};
 ghost use Rattle.lists.specs.Parts.{onPart};
 ghost use Rattle.lists.specs.Pieces.{pieces, mapPieces};
@@ -15,20 +15,7 @@ use rings::choices::straddles;
 use rings::choices::strip_shift;
 use rings::moves::Move;
 use rings::moves::move_unless_zero;
-
-// Where a piece of `count` elements that begins at `from` ends among `n`, without a sum that could
-// wrap.
-fn piece_end(n: usize, from: usize, count: usize) -> usize
-    ensures { λ r. ⌜ r ≡ min (from + count) n ⌝ }
-{
-    if n < from {
-        return n;
-    }
-    if n - from < count {
-        return n;
-    }
-    from + count
-}
+use slices::piece_end;
 
 // One hole, by whole periods.
 fn onto(u: &mut [f64], lo: f64, period: f64)

@@ -87,3 +87,17 @@ pub fn fill(dst: &mut [f64], from: usize, n: usize, x: f64)
         i += 1;
     }
 }
+
+// Where a piece of `count` elements that begins at `from` ends among `n`, without a sum that could
+// wrap.
+pub fn piece_end(n: usize, from: usize, count: usize) -> usize
+    ensures { λ r. ⌜ r ≡ min (from + count) n ⌝ }
+{
+    if n < from {
+        return n;
+    }
+    if n - from < count {
+        return n;
+    }
+    from + count
+}
