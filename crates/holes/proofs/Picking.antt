@@ -19,7 +19,7 @@ use Rattle.holes.specs.Others.{isRing, othersFrom, others, Picked}
 
 -- ---- one loop
 
-others-first : {A : Type 0} (a b i : ℕ) (x : A) (xs : List A) (t : Bool) → isRing a b i ≡ t → othersFrom a b i (x ∷ xs) ≡ cond t (othersFrom a b (suc i) xs) (x ∷ othersFrom a b (suc i) xs)
+pub others-first : {A : Type 0} (a b i : ℕ) (x : A) (xs : List A) (t : Bool) → isRing a b i ≡ t → othersFrom a b i (x ∷ xs) ≡ cond t (othersFrom a b (suc i) xs) (x ∷ othersFrom a b (suc i) xs)
 unfolding othersFrom
 others-first a b i x xs t h = ap (λ (r : Bool). cond r (othersFrom a b (suc i) xs) (x ∷ othersFrom a b (suc i) xs)) h
 
@@ -53,7 +53,7 @@ module _ (ring : Bool) (here : ℕ) (loop d : List Float) where
 
 -- ---- all of them
 
-none-past : {A : Type 0} (a b : ℕ) (xs : List A) (i j : ℕ) → length xs ≤ i → othersFrom a b j (drop i xs) ≡ []
+pub none-past : {A : Type 0} (a b : ℕ) (xs : List A) (i j : ℕ) → length xs ≤ i → othersFrom a b j (drop i xs) ≡ []
 unfolding othersFrom
 none-past a b xs i j h = ap (othersFrom a b j) (drop-of-length-le xs {i = i} h)
 

@@ -3,8 +3,8 @@ use native.Mathlib.Omega.{arith}
 use lib.ListN.{length}
 use borrow.Author.Needs.{needs}
 use Rattle.holes.proofs.Picking.{Picking, picking, picking-turn, picking-end, piece-within}
-use Rattle.holes.proofs.pick_corners.Statement.{statement}
-use Rattle.holes.proofs.pick_corners.Tie as tie
+use Rattle.holes.proofs.corners.pick_corners.Statement.{statement}
+use Rattle.holes.proofs.corners.pick_corners.Tie as tie
 
 abbrev Inv-loop : tie.InvT-loop
 Inv-loop dst₀ at src counts a b here₀ from₀ i₀ dst here from i = Picking at src counts a b dst₀ dst here from i

@@ -1,7 +1,7 @@
 use Rattle.holes.proofs.Picking.{piece-long, picked-ring, longer-than-all, longer-than-left, picked-hole}
 use borrow.Author.Needs.{needs}
-use Rattle.holes.proofs.pick_one.Statement.{statement}
-use Rattle.holes.proofs.pick_one.Tie as tie
+use Rattle.holes.proofs.corners.pick_one.Statement.{statement}
+use Rattle.holes.proofs.corners.pick_one.Tie as tie
 
 returns : tie.Need-returns
 returns c = picked-ring _ _ _ _ (c .if1 .taken)

@@ -1,6 +1,6 @@
 use Rattle.holes.proofs.Picking.{ring-a, ring-b}
-use Rattle.holes.proofs.is_ring.Statement.{statement}
-use Rattle.holes.proofs.is_ring.Tie as tie
+use Rattle.holes.proofs.corners.is_ring.Statement.{statement}
+use Rattle.holes.proofs.corners.is_ring.Tie as tie
 
 returns : tie.Need-returns
 returns c = ring-a _ _ _ (c .if1 .taken)
