@@ -2,22 +2,28 @@
 //! record. A comparison that never meets a branch says nothing of it, so the run fails where one
 //! was not met.
 
+use crate::faces::columns;
+use crate::reference::{Closing, Path};
 use std::sync::atomic::{AtomicU64, AtomicUsize, Ordering};
 
 macro_rules! branches {
-    ($($name:ident)*) => {
+    ($($group:ident: $($name:ident)*;)*) => {
         #[derive(Clone, Copy, Debug)]
-        pub enum Branch { $($name),* }
+        pub enum Branch { $($($name),*),* }
 
-        const ALL: &[Branch] = &[$(Branch::$name),*];
+        $(pub const $group: &[Branch] = &[$(Branch::$name),*];)*
+
+        const NUMBER: usize = [$($(Branch::$name),*),*].len();
     };
 }
 
 branches! {
+REGIONS:
     // closed_region and rephase_holes
     OneEncloses LargestArea HoleStays HoleMovedInU HoleMovedInV
     // full_domain_loop: the least and the greatest number of steps
-    StepsAt3 StepsAt256
+    StepsAt3 StepsAt256;
+BANDS:
     // wrapped_region: rings
     RingReversed RingShifted MinusZeroShifted WrapsTwice WrapsMore
     FirstRingOfThree LaterRingOfThree
@@ -32,18 +38,19 @@ branches! {
     // close_strip
     WallEmpty EqualFirstV FirstWallFalls RepeatDropped TrailingRepeatDropped UnderThreeCorners
     // a negative zero in what the wrapped path gives
-    MinusZeroInU MinusZeroInV MinusZeroInPositions
+    MinusZeroInU MinusZeroInV MinusZeroInPositions;
+LIMITS:
     // limits of a record, and one past them
-    SixteenLoops PointsAt512 PointsAt513 StripAt1024 StripAt1025
+    SixteenLoops PointsAt512 PointsAt513 StripAt1024 StripAt1025;
 }
 
-type Counts = [AtomicU64; ALL.len()];
+type Counts = [AtomicU64; NUMBER];
 
 /// On the face at hand.
-static HERE: Counts = [const { AtomicU64::new(0) }; ALL.len()];
+static HERE: Counts = [const { AtomicU64::new(0) }; NUMBER];
 /// On all faces before it, and on how many of them at all.
-static TIMES: Counts = [const { AtomicU64::new(0) }; ALL.len()];
-static FACES: Counts = [const { AtomicU64::new(0) }; ALL.len()];
+static TIMES: Counts = [const { AtomicU64::new(0) }; NUMBER];
+static FACES: Counts = [const { AtomicU64::new(0) }; NUMBER];
 
 pub fn met(branch: Branch) {
     HERE[branch as usize].fetch_add(1, Ordering::Relaxed);
@@ -61,10 +68,27 @@ pub fn is_minus_zero(x: f64) -> bool {
     x == 0.0 && x.is_sign_negative()
 }
 
-/// Forgets what was met since the last face.
+/// The negative zeros of a band and its holes, which differ from others in their bits alone.
+pub fn note_zeros(closing: &Closing) {
+    if closing.path != Path::Wrapped {
+        return;
+    }
+    let mut found = [false; 5];
+    for one in closing.holes.iter().chain([&closing.outer]) {
+        for (found, list) in found.iter_mut().zip(columns(&one.uv, &one.xyz)) {
+            *found |= list.into_iter().any(is_minus_zero);
+        }
+    }
+    let [u, v, x, y, z] = found;
+    noted(Branch::MinusZeroInU, u);
+    noted(Branch::MinusZeroInV, v);
+    noted(Branch::MinusZeroInPositions, x || y || z);
+}
+
+/// Forgets all that was met, so that a layer counts its own faces alone.
 pub fn forget() {
-    for here in &HERE {
-        here.store(0, Ordering::Relaxed);
+    for count in [&HERE, &TIMES, &FACES].into_iter().flatten() {
+        count.store(0, Ordering::Relaxed);
     }
 }
 
@@ -75,17 +99,17 @@ pub fn face_done() {
     noted(Branch::BothRingsRecut, here(Branch::RingRecut) == 2);
     noted(Branch::NoStartForward, here(Branch::NoStart) > here(Branch::NoStartBackward));
     noted(Branch::TorusSwappedNotLifted, here(Branch::TorusSwapped) > here(Branch::TorusLifted));
-    for i in 0..ALL.len() {
+    for i in 0..NUMBER {
         let times = HERE[i].swap(0, Ordering::Relaxed);
         TIMES[i].fetch_add(times, Ordering::Relaxed);
         FACES[i].fetch_add(u64::from(times > 0), Ordering::Relaxed);
     }
 }
 
-/// Prints the counts. False where a branch was not met.
-pub fn all_met() -> bool {
+/// Prints the counts. False where one of the branches was not met.
+pub fn all_met(branches: &[Branch]) -> bool {
     let mut all = true;
-    for branch in ALL {
+    for branch in branches {
         let [times, faces] =
             [&TIMES, &FACES].map(|counts| counts[*branch as usize].load(Ordering::Relaxed));
         println!("comparison: branch {branch:?}: met on {faces} faces, {times} times");

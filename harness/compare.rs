@@ -3,9 +3,11 @@
 //!
 //!     compare [--seed N] [--times N] [--only LAYER]
 
+mod bands;
 mod branches;
 mod calls;
 mod compared;
+mod compared_bands;
 mod faces;
 mod generator;
 mod items;
@@ -38,6 +40,7 @@ const LAYERS: &[(&str, fn(&Run))] = &[
     ("loops", loops::compare),
     ("regions", regions::compare),
     ("whole", whole::compare),
+    ("bands", bands::compare),
     ("records", records::compare),
     ("results", results::compare),
     ("generator", generator::meet_everything),

@@ -1,11 +1,11 @@
 //! Whether the generated faces and records meet every path and every branch of the cut Rust, and
 //! every refusal. Nothing is compared here.
 
-use crate::branches::{Branch, all_met, face_done, forget, is_minus_zero, noted};
+use crate::branches::{BANDS, LIMITS, REGIONS, all_met, face_done, forget, note_zeros};
 use crate::calls::call;
-use crate::faces::{band, columns, patch, whole};
+use crate::faces::{band, patch, whole};
 use crate::judge::{Answer, judge};
-use crate::reference::{Closing, Path, close};
+use crate::reference::{Path, close};
 use crate::report::Run;
 
 const FACES: u64 = 200_000;
@@ -14,7 +14,7 @@ pub fn meet_everything(run: &Run) {
     forget();
     meet_paths(run);
     meet_refusals(run);
-    if !all_met() {
+    if !all_met(&[REGIONS, BANDS, LIMITS].concat()) {
         println!("comparison: a branch or a limit was not met");
         std::process::exit(1);
     }
@@ -53,23 +53,6 @@ fn meet_paths(run: &Run) {
         println!("comparison: the generated faces leave a path out");
         std::process::exit(1);
     }
-}
-
-/// The negative zeros of a band and its holes, which differ from others in their bits alone.
-fn note_zeros(closing: &Closing) {
-    if closing.path != Path::Wrapped {
-        return;
-    }
-    let mut found = [false; 5];
-    for one in closing.holes.iter().chain([&closing.outer]) {
-        for (found, list) in found.iter_mut().zip(columns(&one.uv, &one.xyz)) {
-            *found |= list.into_iter().any(is_minus_zero);
-        }
-    }
-    let [u, v, x, y, z] = found;
-    noted(Branch::MinusZeroInU, u);
-    noted(Branch::MinusZeroInV, v);
-    noted(Branch::MinusZeroInPositions, x || y || z);
 }
 
 fn meet_refusals(run: &Run) {
