@@ -1,6 +1,6 @@
 //! How often each branch of the cut Rust was met and on how many faces, and each limit of a
 //! record. A comparison that never meets a branch says nothing of it, so the run fails where one
-//! was not met.
+//! was hardly met.
 
 use crate::faces::columns;
 use crate::reference::{Closing, Path};
@@ -43,6 +43,9 @@ LIMITS:
     // limits of a record, and one past them
     SixteenLoops PointsAt512 PointsAt513 StripAt1024 StripAt1025;
 }
+
+/// On so many faces each branch must be met: on one alone it may be by accident.
+const LEAST: u64 = 20;
 
 type Counts = [AtomicU64; NUMBER];
 
@@ -106,14 +109,14 @@ pub fn face_done() {
     }
 }
 
-/// Prints the counts. False where one of the branches was not met.
+/// Prints the counts. False where one of the branches was met on too few faces.
 pub fn all_met(branches: &[Branch]) -> bool {
     let mut all = true;
     for branch in branches {
         let [times, faces] =
             [&TIMES, &FACES].map(|counts| counts[*branch as usize].load(Ordering::Relaxed));
         println!("comparison: branch {branch:?}: met on {faces} faces, {times} times");
-        all &= faces > 0;
+        all &= faces >= LEAST;
     }
     all
 }

@@ -15,7 +15,7 @@ pub fn meet_everything(run: &Run) {
     meet_paths(run);
     meet_refusals(run);
     if !all_met(&[REGIONS, BANDS, LIMITS].concat()) {
-        println!("comparison: a branch or a limit was not met");
+        println!("comparison: a branch or a limit was met on too few faces");
         std::process::exit(1);
     }
 }
