@@ -1,3 +1,4 @@
 pub mod Heads
 pub mod EachPiece
 pub mod Measured
+pub mod OnePiece

@@ -3,9 +3,8 @@ use lib.IntN.{pos}
 use lib.ListN.{length}
 use native.Mathlib.Omega.{arith}
 use mathlib.Core.Path.{_∙_}
-use mir.Syntax.{w32}
-use mir.ValLaws.{toZ-ofZ}
-use borrow.Author.Needs.{needs}
+use mir.Facts.{toZ-ofZ}
+use borrow.Author.Needs.{needs, sfits-of}
 use Rattle.measuring.specs.Wraps.{wrapAlong}
 use Rattle.measuring.proofs.EachPiece.{Valuing, no-valuing, valuing, valuing-turn, valuing-end}
 use Rattle.measuring.proofs.wraps.wraps_into.Statement.{statement}
@@ -48,7 +47,7 @@ loop-less : tie.Need-loop-less Inv-loop μ-loop
 loop-less c = omega arith
 
 loop-again : tie.Need-loop-again Inv-loop μ-loop
-loop-again c = valuing-turn _ _ _ _ _ _ _ _ _ (pos 0) (c .before .before .before .before .loop .inv) (c .before .before .before .loop-test .taken) (c .before .piece-end .ensures) (toZ-ofZ w32 _ (record { sfits = c .wrap-of-part .ok }) ∙ c .wrap-of-part .ensures)
+loop-again c = valuing-turn _ _ _ _ _ _ _ _ _ (pos 0) (c .before .before .before .before .loop .inv) (c .before .before .before .loop-test .taken) (c .before .piece-end .ensures) (toZ-ofZ (sfits-of (c .wrap-of-part .ok)) ∙ c .wrap-of-part .ensures)
 
 same-length : tie.Need-same-length Inv-loop μ-loop
 same-length c = c .before .loop .inv .fill .long
