@@ -2,3 +2,5 @@ pub mod Heads
 pub mod EachPiece
 pub mod Measured
 pub mod OnePiece
+pub mod Searches
+pub mod Judged

@@ -2,4 +2,5 @@
 // wraps of its loops, and the refusals 8 to 11.
 pub mod head;
 pub mod piece;
+pub mod refusals;
 pub mod wraps;
