@@ -69,11 +69,11 @@ wrapping-some (Every p) (c ∷ r) h = omega arith
 -- ---- the record
 
 module _ (s : List ℕ) where
-  length-positions : length (Face.positions s) ≡ points s
+  pub length-positions : length (Face.positions s) ≡ points s
   unfolding Face.positions
   length-positions = length-rowAt xyzAt 24 s _ (points s)
 
-  length-parameters : length (parameters s) ≡ points s
+  pub length-parameters : length (parameters s) ≡ points s
   unfolding parameters
   length-parameters = length-rowAt uvAt 16 s _ (points s)
 

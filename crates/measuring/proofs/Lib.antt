@@ -4,3 +4,4 @@ pub mod Measured
 pub mod OnePiece
 pub mod Searches
 pub mod Judged
+pub mod ReadLoops
