@@ -58,14 +58,15 @@ ends-by-coordinate (c ∷ r) =
 
 -- ---- the record
 
-module _ (s : List ℕ) where
-  abbrev none : Measured Vec3
-  none = record { corners = []; wrap = pos 0 }
+-- past the last loop
+abbrev pub none : Measured Vec3
+none = record { corners = []; wrap = pos 0 }
 
-  abbrev wrapsIn : List ℤ
+module _ (s : List ℕ) where
+  abbrev pub wrapsIn : List ℤ
   wrapsIn = map (λ (m : Measured Vec3). m .wrap) (measuredIn s)
 
-  wraps-in : (k : ℕ) → wrapsAt wrapsIn k ≡ isWrapping (loopIn s k)
+  pub wraps-in : (k : ℕ) → wrapsAt wrapsIn k ≡ isWrapping (loopIn s k)
   unfolding wrapsAt loopIn
   wraps-in k = ap wraps (getD-mapped (λ (m : Measured Vec3). m .wrap) (measuredIn s) k none)
 

@@ -5,3 +5,4 @@ pub mod OnePiece
 pub mod Searches
 pub mod Judged
 pub mod ReadLoops
+pub mod RingsGiven
