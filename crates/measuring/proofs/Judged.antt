@@ -3,7 +3,7 @@ use Prim.Native.Nat.{ℕ, zero, suc}
 use mathlib.Core.Path.{_≡_, refl, sym, ap, _∙_}
 use mathlib.Core.Bool.{Bool, true, false, cond, not, _&&_}
 use mathlib.Core.List.{List, [], _∷_, map, map-map, map-id}
-use lib.IntN.{ℤ, pos}
+use lib.IntN.{pos}
 use lib.Ieee.{Float, eq}
 use lib.ListN.{length, getD, length-map}
 use Rattle.numbers.specs.Position.{same}
@@ -22,7 +22,7 @@ use Rattle.judgement.specs.Later.{loopIn, openRing, oneRing, manyRings, openSur
 use Rattle.judgement.proofs.Loops.{loops-many, measured-many}
 use Rattle.faces.specs.Held.{concat, HoldsLoops}
 use Rattle.measuring.specs.Refusals.{wrapsAt, meetsAt, closesAt, openAt, openAmong, wrappingOf, oneAmong, manyAmong, openKind}
-use Rattle.measuring.proofs.Measured.{pieces-concat}
+use Rattle.measuring.proofs.Measured.{pieces-concat, wrapsIn}
 
 -- ---- lists
 
@@ -63,10 +63,7 @@ abbrev pub none : Measured Vec3
 none = record { corners = []; wrap = pos 0 }
 
 module _ (s : List ℕ) where
-  abbrev pub wrapsIn : List ℤ
-  wrapsIn = map (λ (m : Measured Vec3). m .wrap) (measuredIn s)
-
-  pub wraps-in : (k : ℕ) → wrapsAt wrapsIn k ≡ isWrapping (loopIn s k)
+  pub wraps-in : (k : ℕ) → wrapsAt (wrapsIn s) k ≡ isWrapping (loopIn s k)
   unfolding wrapsAt loopIn
   wraps-in k = ap wraps (getD-mapped (λ (m : Measured Vec3). m .wrap) (measuredIn s) k none)
 
@@ -94,22 +91,22 @@ module _ (s : List ℕ) where
     as-many : length counts ≡ loops s
     as-many = ap length (h .counts-are) ∙ length-map (loopsIn s) length ∙ loops-many s
 
-    pub open-ring-in : openAmong counts wrapsIn x y z ≡ openRing s
+    pub open-ring-in : openAmong counts (wrapsIn s) x y z ≡ openRing s
     unfolding openAmong openAt openRing
     open-ring-in = λ i. firstWhere (as-many i) (λ k. wraps-in k i && not (closes-in k i))
 
-  as-many-wraps : length wrapsIn ≡ loops s
+  as-many-wraps : length (wrapsIn s) ≡ loops s
   as-many-wraps = length-map (measuredIn s) (λ (m : Measured Vec3). m .wrap) ∙ measured-many s
 
-  pub wrapping-in : wrappingOf wrapsIn ≡ wrapping s
+  pub wrapping-in : wrappingOf (wrapsIn s) ≡ wrapping s
   unfolding wrappingOf wrapping
   wrapping-in = only-mapped (λ (m : Measured Vec3). m .wrap) wraps (measuredIn s)
 
-  pub one-ring-in : oneAmong wrapsIn ≡ oneRing s
+  pub one-ring-in : oneAmong (wrapsIn s) ≡ oneRing s
   unfolding oneAmong oneRing
   one-ring-in = λ i. cond (wrapping-in i =? 1) (firstWhere (as-many-wraps i) (λ k. wraps-in k i)) nowhere
 
-  pub many-rings-in : manyAmong wrapsIn ≡ manyRings s
+  pub many-rings-in : manyAmong (wrapsIn s) ≡ manyRings s
   unfolding manyAmong manyRings
   many-rings-in = λ i. when (2 <? wrapping-in i) (wrapping-in i)
 

@@ -1,16 +1,20 @@
 -- The wraps of a face record's loops, from parallel lists that hold the loops.
-use Prim.Native.Nat.{ℕ}
+use Prim.Native.Nat.{ℕ, _≤_}
 use mathlib.Core.Path.{_≡_, refl, sym, ap, _∙_}
 use mathlib.Core.List.{List, [], _∷_, map, map-map, map-append}
+use native.Mathlib.Omega.{arith}
 use lib.IntN.{ℤ, pos}
 use lib.Ieee.{Float}
-use lib.ListN.{length, length-map}
+use lib.ListN.{length, take, length-map}
 use lib.Seq.{take-at, drop-at}
 use Rattle.numbers.specs.declared.math.Vec3.{Vec3}
 use Rattle.surfaces.specs.declared.surface.Period.{Period}
 use Rattle.surfaces.specs.declared.surface.Period.the-variants.{Every, None}
 use Rattle.surfaces.specs.Domains.{uPeriod}
 use Rattle.lists.specs.Pieces.{pieces}
+use Rattle.lists.specs.Placed.{placed}
+use Rattle.lists.proofs.Pieces.{length-pieces}
+use Rattle.lists.proofs.Placed.{front-placed}
 use Rattle.loops.specs.Wrap.{netWrap}
 use Rattle.bands.specs.Corners.{Corner, Corners, us}
 use Rattle.bands.specs.Given.{Measured}
@@ -49,13 +53,25 @@ wraps-along p [] = refl
 wraps-along p (l ∷ ls) = λ i. same-wrap p l i ∷ wraps-along p ls i
 
 module _ (s : List ℕ) where
-  pub wraps-measured : map (λ (m : Measured Vec3). m .wrap) (measuredIn s) ≡ map (wrapOf (uPeriod (surfaceIn s))) (loopsIn s)
+  -- the wraps that the judgement speaks of
+  abbrev pub wrapsIn : List ℤ
+  wrapsIn = map (λ (m : Measured Vec3). m .wrap) (measuredIn s)
+
+  wraps-measured : wrapsIn ≡ map (wrapOf (uPeriod (surfaceIn s))) (loopsIn s)
   unfolding measuredIn
   wraps-measured = map-map _ _ (loopsIn s)
 
-  -- what is put down as the wraps of the loops is what the record's loops have
-  pub wraps-held : (counts : List ℕ) (u v x y z : List Float) → HoldsLoops (loopsIn s) counts u v x y z
-      → map (wrapAlong (uPeriod (surfaceIn s))) (pieces counts u) ≡ map (λ (m : Measured Vec3). m .wrap) (measuredIn s)
-  wraps-held counts u v x y z h =
-      ap (map (wrapAlong (uPeriod (surfaceIn s)))) ((λ i. pieces (h .counts-are i) (h .columns .u-is i)) ∙ pieces-concat (λ (c : Corner Vec3). c .u) (loopsIn s))
-      ∙ wraps-along (uPeriod (surfaceIn s)) (loopsIn s) ∙ sym wraps-measured
+  module _ (counts : List ℕ) (u v x y z : List Float) (h : HoldsLoops (loopsIn s) counts u v x y z) where
+    -- what is put down as the wraps of the loops is what the record's loops have
+    pub wraps-held : map (wrapAlong (uPeriod (surfaceIn s))) (pieces counts u) ≡ wrapsIn
+    wraps-held =
+        ap (map (wrapAlong (uPeriod (surfaceIn s)))) ((λ i. pieces (h .counts-are i) (h .columns .u-is i)) ∙ pieces-concat (λ (c : Corner Vec3). c .u) (loopsIn s))
+        ∙ wraps-along (uPeriod (surfaceIn s)) (loopsIn s) ∙ sym wraps-measured
+
+    -- a slice with room for them shows them in its front
+    pub wraps-shown : (w₀ w : List ℤ) → length counts ≤ length w₀ → w ≡ placed 0 (map (wrapAlong (uPeriod (surfaceIn s))) (pieces counts u)) w₀
+        → take (length counts) w ≡ wrapsIn
+    wraps-shown w₀ w room e =
+        let put : List ℤ = map (wrapAlong (uPeriod (surfaceIn s))) (pieces counts u) in
+        let many : length put ≡ length counts = length-map (pieces counts u) (wrapAlong (uPeriod (surfaceIn s))) ∙ length-pieces counts u in
+        (λ i. take (sym many i) (e i)) ∙ front-placed put w₀ (omega arith) ∙ wraps-held
