@@ -12,7 +12,7 @@ use Rattle.lists.specs.Pieces.{pieces}
 use Rattle.loops.specs.Rings.{endsMeet}
 use Rattle.loops.specs.Steps.{lastOf}
 use Rattle.bands.specs.Corners.{Corner, Corners, positions}
-use Rattle.bands.specs.Columns.{xs, ys, zs}
+use Rattle.bands.specs.Columns.{Columns, xs, ys, zs}
 use Rattle.bands.specs.Given.{Measured, wraps, only}
 use Rattle.records.specs.Bytes.{_=?_, _<?_}
 use Rattle.records.specs.Face.{kind, loops}
@@ -21,7 +21,7 @@ use Rattle.judgement.specs.Face.{loopsIn, measuredIn, isWrapping, wrapping}
 use Rattle.judgement.specs.Later.{loopIn, openRing, oneRing, manyRings, openSurface}
 use Rattle.judgement.proofs.Loops.{loops-many, measured-many}
 use Rattle.faces.specs.Held.{concat, HoldsLoops}
-use Rattle.measuring.specs.Refusals.{wrapsAt, meetsAt, closesAt, openAt, openAmong, wrappingOf, oneAmong, manyAmong, openKind}
+use Rattle.measuring.specs.Refusals.{wrapsAt, closesAt, openAt, openAmong, wrappingOf, oneAmong, manyAmong, openKind}
 use Rattle.measuring.proofs.Measured.{pieces-concat, wrapsIn}
 
 -- ---- lists
@@ -75,18 +75,27 @@ module _ (s : List ℕ) where
       unmarked = map-map _ _ (loopsIn s) ∙ map-id (loopsIn s)
 
   module _ (counts : List ℕ) (u v x y z : List Float) (h : HoldsLoops (loopsIn s) counts u v x y z) where
-    -- one coordinate
-    module _ (g : Corner Vec3 → Float) (c : List Float) (c-is : c ≡ map g (concat (loopsIn s))) where
-      meets-in : (k : ℕ) → meetsAt counts c k ≡ endsMeet eq (map g (loopIn s k .corners))
-      meets-in k =
-          ap (λ (l : List (List Float)). endsMeet eq (getD l k [])) ((λ i. pieces (h .counts-are i) (c-is i)) ∙ pieces-concat g (loopsIn s))
-          ∙ ap (endsMeet eq) (getD-mapped (map g) (loopsIn s) k [] ∙ ap (map g) (sym (corners-in k)))
+    -- one column of loop k
+    column-in : (g : Corner Vec3 → Float) (c : List Float) → c ≡ map g (concat (loopsIn s)) → (k : ℕ) → getD (pieces counts c) k [] ≡ map g (loopIn s k .corners)
+    column-in g c c-is k =
+        ap (λ (l : List (List Float)). getD l k []) ((λ i. pieces (h .counts-are i) (c-is i)) ∙ pieces-concat g (loopsIn s))
+        ∙ getD-mapped (map g) (loopsIn s) k [] ∙ ap (map g) (sym (corners-in k))
+
+    -- the pieces that `piece_of` lends hold the corners of loop k
+    pub loop-held : (k : ℕ) → Columns (loopIn s k .corners) (getD (pieces counts u) k []) (getD (pieces counts v) k []) (getD (pieces counts x) k []) (getD (pieces counts y) k []) (getD (pieces counts z) k [])
+    loop-held k = record {
+      u-is = column-in (λ c. c .u) u (h .columns .u-is) k;
+      v-is = column-in (λ c. c .v) v (h .columns .v-is) k;
+      x-is = column-in (λ c. c .at .x) x (h .columns .x-is) k;
+      y-is = column-in (λ c. c .at .y) y (h .columns .y-is) k;
+      z-is = column-in (λ c. c .at .z) z (h .columns .z-is) k;
+    }
 
     closes-in : (k : ℕ) → closesAt counts x y z k ≡ endsMeet same (positions (loopIn s k .corners))
     unfolding closesAt
     closes-in k =
-        (λ i. meets-in (λ c. c .at .x) x (h .columns .x-is) k i && meets-in (λ c. c .at .y) y (h .columns .y-is) k i && meets-in (λ c. c .at .z) z (h .columns .z-is) k i)
-        ∙ sym (ends-by-coordinate (loopIn s k .corners))
+        let r = loop-held k in
+        (λ i. endsMeet eq (r .x-is i) && endsMeet eq (r .y-is i) && endsMeet eq (r .z-is i)) ∙ sym (ends-by-coordinate (loopIn s k .corners))
 
     as-many : length counts ≡ loops s
     as-many = ap length (h .counts-are) ∙ length-map (loopsIn s) length ∙ loops-many s
