@@ -6,7 +6,7 @@ ghost use Prim.Native.Nat.{_≤_, min};
 ghost use lib.ListN.{length, getD, take};
 ghost use Rattle.lists.specs.Pieces.{pieces};
 ghost use Rattle.records.specs.Bytes.{sum};
-use seam::holes::piece_end;
+use slices::piece_end;
 
 // Where loop k begins among n elements.
 fn piece_start(n: usize, counts: &[usize], k: usize) -> usize
