@@ -1,0 +1,9 @@
+-- 01, "Closed faces": the outer loop comes first, and "Holes keep their order".
+use Prim.Native.Nat.{ℕ, _+_}
+use mathlib.Core.List.{List, _++_}
+use lib.ListN.{take, drop}
+use Rattle.loops.specs.Part.{partOf}
+
+-- a part of a list moved to the front, with the rest in its order
+unfoldable pub partFirst : {A : Type 0} → ℕ → ℕ → List A → List A
+partFirst start count xs = partOf start count xs ++ (take start xs ++ drop (start + count) xs)

@@ -1,0 +1,3 @@
+// The closed path from parallel slices to parallel slices.
+pub mod first;
+pub mod table;
