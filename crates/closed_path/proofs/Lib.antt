@@ -1,0 +1,4 @@
+pub mod Behind
+pub mod Holes
+pub mod Outermost
+pub mod Answers
