@@ -1,0 +1,102 @@
+-- The steps of the closed path, on the loops that the lists hold.
+use Prim.Native.Nat.{ℕ, _≤_, min}
+use mathlib.Core.Path.{_≡_, refl, sym, ap, _∙_}
+use mathlib.Core.Bool.{Bool, true, cond, _&&_}
+use mathlib.Core.List.{List, [], _∷_, map}
+use native.Mathlib.Omega.{arith}
+use borrow.Author.Tests.{le-leb}
+use lib.Dec.{leb}
+use lib.ListN.{length, length-map}
+use lib.Ieee.{Float}
+use Rattle.numbers.specs.declared.math.Vec3.{Vec3}
+use Rattle.lists.specs.Placed.{placed}
+use Rattle.lists.proofs.Placed.{placed-whole}
+use Rattle.regions.specs.Table.{loopsOf, boxesOf}
+use Rattle.regions.specs.Outer.{outerOf}
+use Rattle.regions.specs.Closed.{roomFor, closedRegion}
+use Rattle.regions.specs.Rephase.{Arrays, arrays, rephaseHoles}
+use Rattle.bands.specs.Corners.{Corners, us, vs}
+use Rattle.judgement.specs.Paths.{boundsOf, signedArea, outerNumber}
+use Rattle.faces.specs.Held.{concat}
+use Rattle.closed_path.specs.Table.{startsOf, areasOf}
+use Rattle.closed_path.specs.Path.{HoldsParameters, RoomEach, startsIn, rephasedArrays}
+use Rattle.closed_path.proofs.Behind.{map-concat, loops-are}
+use Rattle.closed_path.proofs.table.Laws.{length-starts}
+
+map-map : {A B C : Type 0} (f : B → C) (g : A → B) (l : List A) → map f (map g l) ≡ map (λ (a : A). f (g a)) l
+map-map f g [] = refl
+map-map f g (a ∷ l) = ap (λ (k : List _). f (g a) ∷ k) (map-map f g l)
+
+-- a column of the loops has as many entries in each as the loop has corners
+lengths : {A : Type 0} (f : A → Float) (ls : List (List A)) → map length (map (map f) ls) ≡ map length ls
+lengths f [] = refl
+lengths f (l ∷ ls) = λ i. length-map l f i ∷ lengths f ls i
+
+-- the table finds a column of each loop
+column-loops : {A : Type 0} (f : A → Float) (ls : List (List A)) → loopsOf (startsOf (length (concat ls)) (map length ls)) (map length ls) (map f (concat ls)) ≡ map (map f) ls
+column-loops f ls =
+    let long : length (concat ls) ≡ length (concat (map (map f) ls)) = sym (length-map (concat ls) f) ∙ ap length (map-concat f ls) in
+    (λ i. loopsOf (startsOf (length (concat ls)) (sym (lengths f ls) i)) (sym (lengths f ls) i) (map-concat f ls i)) ∙ loops-are (map (map f) ls) (length (concat ls)) long
+
+boxes-are : (ls : List (Corners Vec3)) → boxesOf (map us ls) (map vs ls) ≡ map boundsOf ls
+unfolding boxesOf
+boxes-are [] = refl
+boxes-are (l ∷ ls) = ap (λ (k : List _). boundsOf l ∷ k) (boxes-are ls)
+
+areas-are : (ls : List (Corners Vec3)) → areasOf (map us ls) (map vs ls) ≡ map signedArea ls
+unfolding areasOf
+areas-are [] = refl
+areas-are (l ∷ ls) = ap (λ (k : List _). signedArea l ∷ k) (areas-are ls)
+
+module _ (ls : List (Corners Vec3)) (counts : List ℕ) (u v : List Float) (h : HoldsParameters ls counts u v) (starts₀ : List ℕ) (areas₀ ul uh vl vh : List Float) (room : RoomEach (length ls) starts₀ areas₀ ul uh vl vh) where
+  abbrev Measured : ℕ → List ℕ → List Float → Type 0
+  Measured r starts areas = (r ≡ outerNumber ls) × ((starts ≡ startsIn ls) × (areas ≡ map signedArea ls))
+
+  roomy : (n : ℕ) → n ≡ length ls → roomFor n ul uh vl vh ≡ true
+  roomy n e =
+      let a = room .in-ulo in
+      let b = room .in-uhi in
+      let c = room .in-vlo in
+      let d = room .in-vhi in
+      rw (le-leb n (length ul) (omega arith), le-leb n (length uh) (omega arith), le-leb n (length vl) (omega arith), le-leb n (length vh) (omega arith))
+
+  module _ (n r : ℕ) (starts : List ℕ) (areas : List Float) (all : n ≡ length u) (s : starts ≡ placed 0 (startsOf n counts) starts₀) (a : areas ≡ placed 0 (areasOf (loopsOf starts counts u) (loopsOf starts counts v)) areas₀) (o : r ≡ closedRegion starts counts u v areas ul uh vl vh) where
+    starts-are : starts ≡ startsIn ls
+    starts-are =
+        let points : n ≡ length (concat ls) = all ∙ ap length (h .u-is) ∙ length-map (concat ls) _ in
+        let long : length (startsIn ls) ≡ length starts₀ = length-starts (length (concat ls)) 0 (map length ls) ∙ length-map ls length ∙ sym (room .in-starts) in
+        s ∙ (λ i. placed 0 (startsOf (points i) (h .counts-are i)) starts₀) ∙ placed-whole (startsIn ls) starts₀ long
+
+    u-loops : loopsOf starts counts u ≡ map us ls
+    u-loops = (λ i. loopsOf (starts-are i) (h .counts-are i) (h .u-is i)) ∙ column-loops _ ls
+
+    v-loops : loopsOf starts counts v ≡ map vs ls
+    v-loops = (λ i. loopsOf (starts-are i) (h .counts-are i) (h .v-is i)) ∙ column-loops _ ls
+
+    areas-found : areas ≡ map signedArea ls
+    areas-found =
+        let long : length (map signedArea ls) ≡ length areas₀ = length-map ls signedArea ∙ sym (room .in-areas) in
+        a ∙ (λ i. placed 0 (areasOf (u-loops i) (v-loops i)) areas₀) ∙ ap (λ (k : List Float). placed 0 k areas₀) (areas-are ls) ∙ placed-whole (map signedArea ls) areas₀ long
+
+    region-is : closedRegion starts counts u v areas ul uh vl vh ≡ outerNumber ls
+    unfolding closedRegion outerNumber
+    region-is =
+        let many : min (length starts) (length counts) ≡ length ls = let b = ap length starts-are ∙ length-starts (length (concat ls)) 0 (map length ls) ∙ length-map ls length in let c = ap length (h .counts-are) ∙ length-map ls length in omega arith in
+        ap (λ (t : Bool). cond t (outerOf (boxesOf (loopsOf starts counts u) (loopsOf starts counts v)) areas) 0) (roomy (min (length starts) (length counts)) many)
+        ∙ (λ i. outerOf (boxesOf (u-loops i) (v-loops i)) (areas-found i)) ∙ ap (λ (k : List _). outerOf k (map signedArea ls)) (boxes-are ls)
+
+    pub measured : Measured r starts areas
+    measured = (o ∙ region-is, (starts-are, areas-found))
+
+  module _ (uperiod vperiod : Float) where
+    abbrev Rephased : ℕ → List ℕ → List Float → List Float → List Float → Type 0
+    Rephased r starts u′ v′ areas′ =
+        (r ≡ outerNumber ls) × ((starts ≡ startsIn ls) × ((u′ ≡ rephasedArrays uperiod vperiod ls .us) × ((v′ ≡ rephasedArrays uperiod vperiod ls .vs) × (areas′ ≡ rephasedArrays uperiod vperiod ls .areas))))
+
+    pub holes-moved : (r : ℕ) (starts : List ℕ) (areas u′ v′ areas′ : List Float) → Measured r starts areas
+        → (u′ ≡ rephaseHoles starts counts r uperiod vperiod (arrays u v areas) .us) × ((v′ ≡ rephaseHoles starts counts r uperiod vperiod (arrays u v areas) .vs) × (areas′ ≡ rephaseHoles starts counts r uperiod vperiod (arrays u v areas) .areas))
+        → Rephased r starts u′ v′ areas′
+    unfolding rephasedArrays
+    holes-moved r starts areas u′ v′ areas′ m e =
+        let left : rephaseHoles starts counts r uperiod vperiod (arrays u v areas) ≡ rephasedArrays uperiod vperiod ls = λ i. rephaseHoles (m .1 .0 i) (h .counts-are i) (m .0 i) uperiod vperiod (arrays (h .u-is i) (h .v-is i) (m .1 .1 i)) in
+        (m .0, (m .1 .0, (e .0 ∙ ap (λ (k : Arrays). k .us) left, (e .1 .0 ∙ ap (λ (k : Arrays). k .vs) left, e .1 .1 ∙ ap (λ (k : Arrays). k .areas) left))))
