@@ -130,7 +130,7 @@ module _ (b : Branch) (outer : ℕ) where
   movedFrom i [] = []
   movedFrom i (r ∷ rs) = turned i r ∷ movedFrom (suc i) rs
 
-  length-moved : (i : ℕ) (rs : List (Corners Vec3)) → length (movedFrom i rs) ≡ length rs
+  pub length-moved : (i : ℕ) (rs : List (Corners Vec3)) → length (movedFrom i rs) ≡ length rs
   unfolding movedFrom
   length-moved i [] = refl
   length-moved i (r ∷ rs) = ap suc (length-moved (suc i) rs)
@@ -156,13 +156,13 @@ module _ (b : Branch) (outer : ℕ) where
       by-number true = length-map r _
       by-number false = rephased-vs b r
 
-  moved-us : (i : ℕ) (rs : List (Corners Vec3)) → length (concat (usOf (movedFrom i rs))) ≡ length (concat rs)
+  pub moved-us : (i : ℕ) (rs : List (Corners Vec3)) → length (concat (usOf (movedFrom i rs))) ≡ length (concat rs)
   unfolding movedFrom concat
   moved-us i [] = refl
   moved-us i (r ∷ rs) =
       length-append (turned i r .us) (concat (usOf (movedFrom (suc i) rs))) ∙ (λ j. turned-us i r j + moved-us (suc i) rs j) ∙ sym (length-append r (concat rs))
 
-  moved-vs : (i : ℕ) (rs : List (Corners Vec3)) → length (concat (vsOf (movedFrom i rs))) ≡ length (concat rs)
+  pub moved-vs : (i : ℕ) (rs : List (Corners Vec3)) → length (concat (vsOf (movedFrom i rs))) ≡ length (concat rs)
   unfolding movedFrom concat
   moved-vs i [] = refl
   moved-vs i (r ∷ rs) =

@@ -27,6 +27,18 @@ pub record RoomEach (n : ℕ) (starts : List ℕ) (areas ulo uhi vlo vhi : List 
   pub in-vlo : n ≤ length vlo
   pub in-vhi : n ≤ length vhi
 
+-- some loops, a start and an area for each, and room for their boxes, for the counts and areas of the result, and for its points
+pub record Room (ls : List (Corners Vec3)) (starts : List ℕ) (areas ulo uhi vlo vhi ru rv rx ry rz : List Float) (rcounts : List ℕ) (rareas : List Float) : Type 0 where
+  pub some : 0 < length ls
+  pub each : RoomEach (length ls) starts areas ulo uhi vlo vhi
+  pub in-rcounts : length ls ≤ length rcounts
+  pub in-rareas : length ls ≤ length rareas
+  pub in-ru : length (concat ls) ≤ length ru
+  pub in-rv : length (concat ls) ≤ length rv
+  pub in-rx : length (concat ls) ≤ length rx
+  pub in-ry : length (concat ls) ≤ length ry
+  pub in-rz : length (concat ls) ≤ length rz
+
 -- where each loop begins
 abbrev pub startsIn : List (Corners Vec3) → List ℕ
 startsIn ls = startsOf (length (concat ls)) (map length ls)

@@ -1,13 +1,17 @@
 // The closed path: `closed_region`, then `rephase_holes`.
 ghost use mathlib.Core.Path.{_≡_};
+ghost use mathlib.Core.Bool.{cond};
 ghost use mathlib.Core.List.{List, map};
-ghost use lib.ListN.{length, getD};
+ghost use lib.Dec.{ltb};
+ghost use lib.ListN.{length, getD, take};
 ghost use Rattle.numbers.specs.declared.math.Vec3.{Vec3};
 ghost use Rattle.lists.specs.Placed.{placed};
 ghost use Rattle.bands.specs.Corners.{Corners};
-ghost use Rattle.judgement.specs.Paths.{signedArea, outerNumber};
+ghost use Rattle.judgement.specs.Paths.{signedArea, outerNumber, closedLoops};
+ghost use Rattle.faces.specs.Held.{HoldsLoops, HoldsResult, concat};
 ghost use Rattle.closed_path.specs.First.{partFirst};
-ghost use Rattle.closed_path.specs.Path.{HoldsParameters, RoomEach, startsIn, rephasedArrays};
+ghost use Rattle.closed_path.specs.Path.{HoldsParameters, RoomEach, Room, startsIn, rephasedArrays};
+use super::first::count_first;
 use super::first::part_first;
 use super::table::areas_of;
 use super::table::starts_of;
@@ -93,4 +97,100 @@ fn entry(table: &[usize], i: usize) -> usize
         return table[i];
     }
     0
+}
+
+// One loop before the others: every column, the areas and the counts.
+fn loop_first(
+    u: &[f64],
+    v: &[f64],
+    x: &[f64],
+    y: &[f64],
+    z: &[f64],
+    counts: &[usize],
+    starts: &[usize],
+    areas: &[f64],
+    ru: &mut [f64],
+    rv: &mut [f64],
+    rx: &mut [f64],
+    ry: &mut [f64],
+    rz: &mut [f64],
+    rcounts: &mut [usize],
+    rareas: &mut [f64],
+    first: usize,
+)
+    ensures { λ _. ⌜ now (ru .exit) ≡ placed 0 (partFirst (getD (now (starts .entry)) first 0) (getD (now (counts .entry)) first 0) (now (u .entry))) (now (ru .entry)) ⌝ }
+    ensures { λ _. ⌜ now (rv .exit) ≡ placed 0 (partFirst (getD (now (starts .entry)) first 0) (getD (now (counts .entry)) first 0) (now (v .entry))) (now (rv .entry)) ⌝ }
+    ensures { λ _. ⌜ now (rx .exit) ≡ placed 0 (partFirst (getD (now (starts .entry)) first 0) (getD (now (counts .entry)) first 0) (now (x .entry))) (now (rx .entry)) ⌝ }
+    ensures { λ _. ⌜ now (ry .exit) ≡ placed 0 (partFirst (getD (now (starts .entry)) first 0) (getD (now (counts .entry)) first 0) (now (y .entry))) (now (ry .entry)) ⌝ }
+    ensures { λ _. ⌜ now (rz .exit) ≡ placed 0 (partFirst (getD (now (starts .entry)) first 0) (getD (now (counts .entry)) first 0) (now (z .entry))) (now (rz .entry)) ⌝ }
+    ensures { λ _. ⌜ now (rcounts .exit) ≡ cond (ltb first (length (now (counts .entry)))) (placed 0 (partFirst first 1 (now (counts .entry))) (now (rcounts .entry))) (now (rcounts .entry)) ⌝ }
+    ensures { λ _. ⌜ now (rareas .exit) ≡ placed 0 (partFirst first 1 (now (areas .entry))) (now (rareas .entry)) ⌝ }
+{
+    let start = entry(starts, first);
+    let count = entry(counts, first);
+    columns_first(u, v, x, y, z, start, count, ru, rv, rx, ry, rz);
+    count_first(counts, first, rcounts);
+    part_first(areas, first, 1, rareas);
+}
+
+// The closed path: the outer loop, then the holes in their order, into the front of ru to rareas.
+// The holes are moved in u and v; starts, areas and the boxes are written too.
+pub fn closed_face(
+    u: &mut [f64],
+    v: &mut [f64],
+    x: &[f64],
+    y: &[f64],
+    z: &[f64],
+    counts: &[usize],
+    starts: &mut [usize],
+    areas: &mut [f64],
+    ulo: &mut [f64],
+    uhi: &mut [f64],
+    vlo: &mut [f64],
+    vhi: &mut [f64],
+    ru: &mut [f64],
+    rv: &mut [f64],
+    rx: &mut [f64],
+    ry: &mut [f64],
+    rz: &mut [f64],
+    rcounts: &mut [usize],
+    rareas: &mut [f64],
+    uperiod: f64,
+    vperiod: f64,
+)
+    ensures { λ _. ⌜ ((ls : List (Corners Vec3)) → HoldsLoops ls (now (counts .entry)) (now (u .entry)) (now (v .entry)) (now (x .entry)) (now (y .entry)) (now (z .entry))
+        → Room ls (now (starts .entry)) (now (areas .entry)) (now (ulo .entry)) (now (uhi .entry)) (now (vlo .entry)) (now (vhi .entry)) (now (ru .entry)) (now (rv .entry)) (now (rx .entry)) (now (ry .entry)) (now (rz .entry)) (now (rcounts .entry)) (now (rareas .entry))
+        → HoldsResult (closedLoops uperiod vperiod ls) (take (length ls) (now (rcounts .exit))) (take (length ls) (now (rareas .exit))) (take (length (concat ls)) (now (ru .exit))) (take (length (concat ls)) (now (rv .exit))) (take (length (concat ls)) (now (rx .exit))) (take (length (concat ls)) (now (ry .exit))) (take (length (concat ls)) (now (rz .exit)))) ⌝ }
+{
+    let outer = holes_moved(
+        u,
+        v,
+        counts,
+        starts,
+        areas,
+        ulo,
+        uhi,
+        vlo,
+        vhi,
+        uperiod,
+        vperiod,
+    );
+    loop_first(
+        u,
+        v,
+        x,
+        y,
+        z,
+        counts,
+        starts,
+        areas,
+        ru,
+        rv,
+        rx,
+        ry,
+        rz,
+        rcounts,
+        rareas,
+        outer,
+    );
 }

@@ -19,6 +19,7 @@ use Rattle.bands.specs.Corners.{Corners, us, vs}
 use Rattle.judgement.specs.Paths.{boundsOf, signedArea, outerNumber}
 use Rattle.faces.specs.Held.{concat}
 use Rattle.closed_path.specs.Table.{startsOf, areasOf}
+use Rattle.closed_path.specs.First.{partFirst}
 use Rattle.closed_path.specs.Path.{HoldsParameters, RoomEach, startsIn, rephasedArrays}
 use Rattle.closed_path.proofs.Behind.{map-concat, loops-are}
 use Rattle.closed_path.proofs.table.Laws.{length-starts}
@@ -100,3 +101,9 @@ module _ (ls : List (Corners Vec3)) (counts : List ℕ) (u v : List Float) (h : 
     holes-moved r starts areas u′ v′ areas′ m e =
         let left : rephaseHoles starts counts r uperiod vperiod (arrays u v areas) ≡ rephasedArrays uperiod vperiod ls = λ i. rephaseHoles (m .1 .0 i) (h .counts-are i) (m .0 i) uperiod vperiod (arrays (h .u-is i) (h .v-is i) (m .1 .1 i)) in
         (m .0, (m .1 .0, (e .0 ∙ ap (λ (k : Arrays). k .us) left, (e .1 .0 ∙ ap (λ (k : Arrays). k .vs) left, e .1 .1 ∙ ap (λ (k : Arrays). k .areas) left))))
+
+-- the columns of one loop first, by where it begins and how many points it has
+pub first-columns : (s c s′ c′ : ℕ) (u v x y z du dv dx dy dz ru rv rx ry rz : List Float) → s ≡ s′ → c ≡ c′
+    → (ru ≡ placed 0 (partFirst s c u) du) × ((rv ≡ placed 0 (partFirst s c v) dv) × ((rx ≡ placed 0 (partFirst s c x) dx) × ((ry ≡ placed 0 (partFirst s c y) dy) × (rz ≡ placed 0 (partFirst s c z) dz))))
+    → (ru ≡ placed 0 (partFirst s′ c′ u) du) × ((rv ≡ placed 0 (partFirst s′ c′ v) dv) × ((rx ≡ placed 0 (partFirst s′ c′ x) dx) × ((ry ≡ placed 0 (partFirst s′ c′ y) dy) × (rz ≡ placed 0 (partFirst s′ c′ z) dz))))
+first-columns s c s′ c′ u v x y z du dv dx dy dz ru rv rx ry rz p q e = rw (← p, ← q) e
