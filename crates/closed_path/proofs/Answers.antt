@@ -12,10 +12,10 @@ use Rattle.regions.specs.declared.rephase.Branch.{Branch}
 use Rattle.regions.specs.Outer.{holesOf}
 use Rattle.regions.specs.Rephase.{Loop}
 use Rattle.bands.specs.Corners.{Corner, Corners, us, vs, positions}
-use Rattle.bands.specs.Columns.{Columns, xs, ys, zs}
+use Rattle.bands.specs.Columns.{xs, ys, zs}
 use Rattle.records.specs.Result.{cornersOf, countOf, areaOf}
 use Rattle.judgement.specs.Face.{cornersFrom}
-use Rattle.judgement.specs.Paths.{ResultLoop, signedArea, branchOf, withArea, outerNumber, outerLoop, rephasedHole, closedLoops}
+use Rattle.judgement.specs.Paths.{ResultLoop, signedArea, branchOf, outerNumber, outerLoop, rephasedHole, closedLoops}
 use Rattle.faces.specs.Held.{concat, HoldsResult}
 use Rattle.closed_path.specs.First.{partFirst}
 use Rattle.closed_path.proofs.Behind.{map-append, concat-cons, concat-append, first-between}

@@ -3,10 +3,9 @@ use Prim.Native.Nat.{ℕ, zero, suc, _+_, _≤_, _<_, min}
 use mathlib.Core.Path.{_≡_, refl, sym, ap, _∙_}
 use mathlib.Core.Bool.{Bool, true, false, cond, _&&_}
 use mathlib.Core.List.{List, [], _∷_, _++_, map, append-nil}
-use native.Mathlib.Nat.{zero-add, add-zero, add-suc}
 use native.Mathlib.Omega.{arith}
 use lib.Dec.{eqb, ltb}
-use lib.ListN.{length, getD, set, take, drop, length-append, length-map, length-take}
+use lib.ListN.{length, getD, set, take, drop, length-append, length-map}
 use lib.Seq.{take-suc, drop-cons, append-snoc, set-at, getD-at, length-take-le, split-at, take-length, drop-length}
 use borrow.Author.Tests.{eq-eqb, ne-eqb, lt-ltb}
 use lib.Ieee.{Float, nan, eq}

@@ -10,7 +10,6 @@ use lib.ListN.{length, getD, length-map}
 use Rattle.numbers.specs.Order.{absOf}
 use Rattle.numbers.specs.declared.math.Vec3.{Vec3}
 use Rattle.records.specs.Result.{All, none, and}
-use Rattle.regions.specs.declared.boxes.Bounds.{Bounds}
 use Rattle.regions.specs.Outer.{passing, theOne, enclosingOne, enclosesOthers, slackOf, lastLargest, outerOf}
 use Rattle.bands.specs.Corners.{Corners}
 use Rattle.judgement.specs.Paths.{boundsOf, signedArea, outerNumber}

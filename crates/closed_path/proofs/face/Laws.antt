@@ -1,11 +1,10 @@
 -- The steps of the closed path, on the loops that the lists hold.
-use Prim.Native.Nat.{ℕ, _≤_, min}
+use Prim.Native.Nat.{ℕ, min}
 use mathlib.Core.Path.{_≡_, refl, sym, ap, _∙_}
-use mathlib.Core.Bool.{Bool, true, cond, _&&_}
+use mathlib.Core.Bool.{Bool, true, cond}
 use mathlib.Core.List.{List, [], _∷_, map}
 use native.Mathlib.Omega.{arith}
 use borrow.Author.Tests.{le-leb}
-use lib.Dec.{leb}
 use lib.ListN.{length, length-map}
 use lib.Ieee.{Float}
 use Rattle.numbers.specs.declared.math.Vec3.{Vec3}
@@ -23,10 +22,6 @@ use Rattle.closed_path.specs.First.{partFirst}
 use Rattle.closed_path.specs.Path.{HoldsParameters, RoomEach, startsIn, rephasedArrays}
 use Rattle.closed_path.proofs.Behind.{map-concat, loops-are}
 use Rattle.closed_path.proofs.table.Laws.{length-starts}
-
-map-map : {A B C : Type 0} (f : B → C) (g : A → B) (l : List A) → map f (map g l) ≡ map (λ (a : A). f (g a)) l
-map-map f g [] = refl
-map-map f g (a ∷ l) = ap (λ (k : List _). f (g a) ∷ k) (map-map f g l)
 
 -- a column of the loops has as many entries in each as the loop has corners
 lengths : {A : Type 0} (f : A → Float) (ls : List (List A)) → map length (map (map f) ls) ≡ map length ls

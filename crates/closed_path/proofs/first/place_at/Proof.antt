@@ -1,4 +1,3 @@
-use borrow.Author.Needs.{needs}
 use native.Mathlib.Omega.{arith}
 use Rattle.closed_path.proofs.first.Laws as laws
 use Rattle.closed_path.proofs.first.place_at.Statement.{statement}
