@@ -38,7 +38,7 @@ pub fn compare(run: &Run) {
     }
 }
 
-/// A face of which two loops wrap, and not one that only nearly does.
+/// A face of which two loops wrap: some rings miss their whole turns by too much.
 fn two_rings(random: &mut Random) -> Face {
     loop {
         let face = band(random);

@@ -207,11 +207,13 @@ fn ring(random: &mut Random, start: f64, level: f64, style: u64) -> Loop {
         .collect();
     uv[n - 1] = Vec2::new(from + (turns + missing) * TURN, uv[n - 1].v);
     roughen(random, &mut uv, style);
-    for p in &mut uv {
-        if p.u == 0.0 && random.one_in(2) {
-            *p = Vec2::new(-0.0, p.v);
-        }
+    match random.below(16) {
+        0 if n > 6 => step_by_the_seam(random, &mut uv),
+        1 => uv = without_a_start(from, level),
+        _ => (),
     }
+    some_minus_zeros(random, &mut uv);
+    let n = uv.len();
     let mut xyz = positions(random, n);
     // A zero may differ in its sign: the two are equal as numbers.
     let first = xyz[0];
@@ -242,12 +244,50 @@ fn roughen(random: &mut Random, uv: &mut [Vec2], style: u64) {
     }
 }
 
+/// A step of equal u about as near the start or the end as the search for a start lets it stand.
+fn step_by_the_seam(random: &mut Random, uv: &mut [Vec2]) {
+    let n = uv.len();
+    let away = 1e-6 + random.choose(&[-5e-7, -2.5e-10, 0.0, 1e-6, 5e-6]);
+    let step = random.choose(&[0.0, 5e-10]);
+    let (at, u) = if random.one_in(2) { (1, uv[0].u + away) } else { (n - 3, uv[n - 1].u - away) };
+    uv[at] = Vec2::new(u, uv[at].v);
+    uv[at + 1] = Vec2::new(u + step, uv[at + 1].v);
+}
+
+/// A ring that none of its points can begin, but that would begin well at its first point if its
+/// end stood a whole turn on: steps of equal u all over it, and a step backward past the end.
+fn without_a_start(from: f64, level: f64) -> Vec<Vec2> {
+    let end = TURN + 1e-7;
+    let steps = [0.0, 1.5, 1.5, 3.0, 3.0, 4.5, 4.5, end, end];
+    steps.map(|step| Vec2::new(from + step, level)).to_vec()
+}
+
+fn some_minus_zeros(random: &mut Random, uv: &mut [Vec2]) {
+    for p in uv {
+        if p.u == 0.0 && random.one_in(2) {
+            *p = Vec2::new(-0.0, p.v);
+        }
+    }
+}
+
 /// Loops that do not wrap: in the strip, across its ends, or all over it.
 fn band_holes(random: &mut Random, start: f64) -> Vec<Loop> {
     if random.one_in(16) {
         // Nearly all of the strip, and its end: a cut past the points of a ring that falls short.
         let most = band_hole(random, start + 0.41 * TURN, 0.41 * TURN);
         return vec![most, band_hole(random, start + TURN, 0.04 * TURN)];
+    }
+    if random.one_in(16) {
+        // Two gaps of one width.
+        return vec![band_hole(random, start + 2.5, 0.5), band_hole(random, start + 6.0, 1.0)];
+    }
+    if random.one_in(16) {
+        // To the end of the strip, and past it by about as much as is let pass.
+        let past = random.choose(&[0.0, 5e-13, 1e-12, 1e-12, 1e-12, 5e-12]);
+        let end = random.near(start + TURN + past, 1);
+        let mut hole = band_hole(random, end - 0.5, 0.25);
+        hole.uv[0] = Vec2::new(end, 0.5);
+        return vec![hole];
     }
     let count = if random.one_in(3) { 0 } else { random.below(5) };
     let one = |random: &mut Random| {
@@ -268,7 +308,9 @@ fn band_holes(random: &mut Random, start: f64) -> Vec<Loop> {
 fn band_hole(random: &mut Random, centre: f64, size: f64) -> Loop {
     let n = 3 + random.below(6);
     let across = |i: u64| Vec2::new(size * quarter_wave(i, n), 0.1 * quarter_wave(i + n / 4, n));
-    let uv = (0..n).map(|i| Vec2::new(centre + across(i).u, 0.5 + across(i).v)).collect();
+    let mut uv: Vec<Vec2> =
+        (0..n).map(|i| Vec2::new(centre + across(i).u, 0.5 + across(i).v)).collect();
+    some_minus_zeros(random, &mut uv);
     Loop { uv, xyz: positions(random, n as usize) }
 }
 
