@@ -1,25 +1,12 @@
 // The table of a face's loops, which lie one behind the other.
 ghost use mathlib.Core.Path.{_≡_};
-ghost use Prim.Native.Nat.{_+_, min};
 ghost use Rattle.lists.specs.Placed.{placed};
 ghost use Rattle.regions.specs.Table.{loopsOf};
 ghost use Rattle.closed_path.specs.Table.{startsOf, areasOf};
 use loops::area::signed_area;
 use loops::part::part;
 use regions::boxes::loop_count;
-
-// Where a loop that begins at `from` ends among n points, without a sum that could wrap.
-fn loop_end(n: usize, from: usize, count: usize) -> usize
-    ensures { λ r. ⌜ r ≡ min (from + count) n ⌝ }
-{
-    if n < from {
-        return n;
-    }
-    if n - from < count {
-        return n;
-    }
-    from + count
-}
+use slices::piece_end;
 
 // Writes where each loop begins among n points.
 pub fn starts_of(counts: &[usize], n: usize, starts: &mut [usize])
@@ -32,7 +19,7 @@ pub fn starts_of(counts: &[usize], n: usize, starts: &mut [usize])
     let mut i = 0;
     while i < counts.len() {
         starts[i] = from;
-        from = loop_end(n, from, counts[i]);
+        from = piece_end(n, from, counts[i]);
         i += 1;
     }
 }

@@ -24,14 +24,14 @@ mul-starts c = omega arith
 slice-write-starts : tie.Need-slice-write-starts Inv-loop μ-loop
 slice-write-starts c = omega arith
 
-mul-loop-end : tie.Need-mul-loop-end Inv-loop μ-loop
-mul-loop-end c = omega arith
+mul-piece-end : tie.Need-mul-piece-end Inv-loop μ-loop
+mul-piece-end c = omega arith
 
-shared-slice-read-loop-end : tie.Need-shared-slice-read-loop-end Inv-loop μ-loop
-shared-slice-read-loop-end c = omega arith
+shared-slice-read-piece-end : tie.Need-shared-slice-read-piece-end Inv-loop μ-loop
+shared-slice-read-piece-end c = omega arith
 
-loop-end-requires : tie.Need-loop-end-requires Inv-loop μ-loop
-loop-end-requires c κs = search needs
+piece-end-requires : tie.Need-piece-end-requires Inv-loop μ-loop
+piece-end-requires c κs = search needs
 
 add-i : tie.Need-add-i Inv-loop μ-loop
 add-i c = omega arith
@@ -40,7 +40,7 @@ loop-less : tie.Need-loop-less Inv-loop μ-loop
 loop-less c = omega arith
 
 loop-again : tie.Need-loop-again Inv-loop μ-loop
-loop-again c = laws.starting-turn _ _ _ _ _ _ (c .before .before .before .loop .inv) _ (c .before .before .loop-test .taken) (c .loop-end .ensures)
+loop-again c = laws.starting-turn _ _ _ _ _ _ (c .before .before .before .loop .inv) _ (c .before .before .loop-test .taken) (c .piece-end .ensures)
 
 same-length : tie.Need-same-length Inv-loop μ-loop
 same-length c = c .before .loop .inv .fill .long
@@ -58,9 +58,9 @@ starts-of-spec =
     loop-holds
     mul-starts
     slice-write-starts
-    mul-loop-end
-    shared-slice-read-loop-end
-    loop-end-requires
+    mul-piece-end
+    shared-slice-read-piece-end
+    piece-end-requires
     add-i
     loop-less
     loop-again
