@@ -2,10 +2,11 @@
 use Prim.Native.Nat.{ℕ, _<_}
 use mathlib.Core.Path.{_≡_, refl, sym, ap, _∙_, subst}
 use mathlib.Core.Bool.{Bool, true, false, cond, not, true≢false}
-use mathlib.Core.List.{List, map}
+use mathlib.Core.List.{List, [], _∷_, map}
+use native.Mathlib.Omega.{arith}
 use lib.Dec.{leb}
-use lib.Ieee.{Float}
-use lib.ListN.{length}
+use lib.Ieee.{Float, nan}
+use lib.ListN.{length, getD, drop}
 use Rattle.numbers.specs.declared.math.Vec3.{Vec3}
 use Rattle.numbers.specs.declared.math.Frame.{Frame}
 use Rattle.surfaces.specs.declared.options.Resolved.{Resolved}
@@ -13,13 +14,14 @@ use Rattle.surfaces.specs.declared.surface.Surface.{Surface}
 use Rattle.loops.specs.Area.{areaOf}
 use Rattle.loops.proofs.SamePosition.{same-position}
 use Rattle.strip.specs.Layout.{capped}
-use Rattle.bands.specs.Corners.{Corners, us, vs, moveV}
+use Rattle.bands.specs.Corners.{Corner, Corners, us, vs, positions, moveV}
 use Rattle.bands.specs.Given.{Given}
 use Rattle.bands.specs.Rings.{Face}
 use Rattle.bands.specs.Strip.{Setting}
 use Rattle.bands.specs.Band.{lift, meanV, pick, pickLoop, goesWith, joined, lowerFirst, lowerRing, upperRing, stripOf, outer, holes}
 use Rattle.bands.specs.Columns.{settingOf}
 use Rattle.bands.proofs.Lengths.{length-first, length-later}
+use Rattle.bands.specs.Demand.{Demand3}
 use Rattle.bands.proofs.Demand.{demand3}
 use Rattle.joining.specs.Lent.{Holds, JoinedAs}
 use Rattle.closing.specs.declared.Closing.{Closing}
@@ -54,6 +56,21 @@ module _ (S : Setting Vec3) (given : Given Vec3) (with₁ with₂ : Bool) (first
       ap (λ (t : Bool). map (moveV (lift (S .vPeriod) (cond t with₁ with₂) (cond (not t) with₁ with₂) (meanV (pick t face)) (meanV (pick (not t) face)))) (pick (not t) face)) lower-first
       ∙ (λ i. let t = lowerFirst S given in map (moveV (lift (S .vPeriod) (with-face t i) (with-face (not t) i) (meanV (pick t face)) (meanV (pick (not t) face)))) (pick (not t) face))
 
+-- ---- the positions that three lists hold
+
+of-position : (g : Vec3 → Float) (r : Corners Vec3) → map (λ (c : Corner Vec3). g (c .at)) r ≡ map g (positions r)
+of-position g [] = refl
+of-position g (c ∷ r) = ap (λ (l : List Float). g (c .at) ∷ l) (of-position g r)
+
+-- positions with the same coordinates are the same
+one-list : (ps qs : List Vec3) → map (λ (p : Vec3). p .x) ps ≡ map (λ (p : Vec3). p .x) qs → map (λ (p : Vec3). p .y) ps ≡ map (λ (p : Vec3). p .y) qs
+    → map (λ (p : Vec3). p .z) ps ≡ map (λ (p : Vec3). p .z) qs → ps ≡ qs
+one-list [] [] ex ey ez = refl
+one-list [] (q ∷ qs) ex ey ez = absurd (let l = ap length ex in omega arith)
+one-list (p ∷ ps) [] ex ey ez = absurd (let l = ap length ex in omega arith)
+one-list (p ∷ ps) (q ∷ qs) ex ey ez =
+    λ i. record { x = getD (ex i) 0 nan; y = getD (ey i) 0 nan; z = getD (ez i) 0 nan } ∷ one-list ps qs (ap (drop 1) ex) (ap (drop 1) ey) (ap (drop 1) ez) i
+
 -- ---- the answer
 
 by-room : (t : Bool) (n m : ℕ) (area : Float) → wrappedBy (cond t (Closing.Closed n area) (Closing.TooMany m)) ≡ cond t (Closed n area) (TooMany m)
@@ -79,7 +96,11 @@ module _ (frame : Frame) (surface : Surface) (options : Resolved) (period : Floa
     band = closes .band;
     holes-are = held .holes;
     unchanged = closes .unchanged;
-    demand3 = demand3 S same-position given;
+    demand3 = λ fits whole ps held.
+        let band = closes .band fits in
+        subst (λ (qs : List Vec3). Demand3 S given qs (map positions (joined S given .holes)))
+        (sym (one-list ps (positions (outer S given)) (sym (held .x-is) ∙ band .x-is ∙ of-position (λ p. p .x) (outer S given)) (sym (held .y-is) ∙ band .y-is ∙ of-position (λ p. p .y) (outer S given)) (sym (held .z-is) ∙ band .z-is ∙ of-position (λ p. p .z) (outer S given))))
+        (demand3 S same-position given whole);
   }
 
   -- ---- the call

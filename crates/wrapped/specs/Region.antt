@@ -27,6 +27,12 @@ abbrev pub wrappedBy : Closing.Closing → Wrapped
 wrappedBy (Closing-variants.Closed n area) = Closed n area
 wrappedBy (Closing-variants.TooMany n) = TooMany n
 
+-- three lists hold the positions ps
+pub record Positions (ps : List Vec3) (x y z : List Float) : Type 0 where
+  pub x-is : x ≡ map (λ (p : Vec3). p .x) ps
+  pub y-is : y ≡ map (λ (p : Vec3). p .y) ps
+  pub z-is : z ≡ map (λ (p : Vec3). p .z) ps
+
 module _ (S : Setting Vec3) (given : Given Vec3) where
   -- how many corners the band has, and its area; or, where the strip has more corners than there is room for, how many those are
   unfoldable pub wrappedOf : ℕ → Wrapped
@@ -35,14 +41,15 @@ module _ (S : Setting Vec3) (given : Given Vec3) where
       let band = outer S given in
       cond (leb corners room) (Closed (length band) (areaOf (us band) (vs band))) (TooMany (capped corners))
 
-  -- What is answered, and what the lent lists then hold. Demand 3 is of the positions that the band and the holes have there.
+  -- What is answered, and what the lent lists then hold. Demand 3 is of the positions that the front of x, y and z holds, whatever they are.
   pub record Wraps (room : ℕ) (counts : List ℕ) (r : Wrapped) (hu u₀ v₀ x₀ y₀ z₀ u v x y z : List Float) : Type 0 where
     pub answer : r ≡ wrappedOf room
     pub band : length (stripOf S given) ≤ room
         → let n = length (outer S given) in Columns (outer S given) (take n u) (take n v) (take n x) (take n y) (take n z)
     pub holes-are : pieces counts hu ≡ map us (holes S given)
     pub unchanged : room < length (stripOf S given) → (u ≡ u₀) × ((v ≡ v₀) × ((x ≡ x₀) × ((y ≡ y₀) × (z ≡ z₀))))
-    pub demand3 : Whole S given → Demand3 S given (positions (outer S given)) (map positions (holes S given))
+    pub demand3 : length (stripOf S given) ≤ room → Whole S given → (ps : List Vec3)
+        → (let n = length (outer S given) in Positions ps (take n x) (take n y) (take n z)) → Demand3 S given ps (map positions (holes S given))
 
 -- The same for every face that the lent lists hold, where what is lent for the search and for the holes' ends is enough. Of rings without points nothing is
 -- said.
