@@ -1,0 +1,5 @@
+pub mod Writing
+pub mod Held
+pub mod Chosen
+pub mod Whole
+pub mod Closing
