@@ -44,13 +44,13 @@ compared s = same-position
 
 -- ---- a record that no condition refuses
 
-module _ (lent : ℕ) (s : List ℕ) (none : NoneHolds (allConditions lent) s) where
-  abbrev bare : Measured Vec3
-  bare = record { corners = []; wrap = pos 0 }
+abbrev bare : Measured Vec3
+bare = record { corners = []; wrap = pos 0 }
 
+module _ (s : List ℕ) (not-9 : oneRing s ≡ nowhere) (not-10 : manyRings s ≡ nowhere) where
   few-wrap : wrapping s ≤ 2
   unfolding manyRings
-  few-wrap = ltb-false 2 (wrapping s) (when-fails _ (wrapping s) .0 (none 10))
+  few-wrap = ltb-false 2 (wrapping s) (when-fails _ (wrapping s) .0 not-10)
 
   -- where no loop is found that wraps, none does
   none-wraps : firstWhere (loops s) (λ k. isWrapping (loopIn s k)) ≡ nowhere → wrapping s ≡ 0
@@ -61,16 +61,17 @@ module _ (lent : ℕ) (s : List ℕ) (none : NoneHolds (allConditions lent) s) w
 
   not-one : wrapping s ≡ 1 → ⊥
   unfolding oneRing
-  not-one e = let z = none-wraps (ap (λ (t : Bool). cond t (firstWhere (loops s) (λ k. isWrapping (loopIn s k))) nowhere) (sym (eq-eqb (wrapping s) 1 e)) ∙ none 9) in omega arith
+  not-one e = let z = none-wraps (ap (λ (t : Bool). cond t (firstWhere (loops s) (λ k. isWrapping (loopIn s k))) nowhere) (sym (eq-eqb (wrapping s) 1 e)) ∙ not-9) in omega arith
 
   -- either none wraps or two do
-  two-wrap : (wrapping s ≡ 0 → ⊥) → wrapping s ≡ 2
+  pub two-wrap : (wrapping s ≡ 0 → ⊥) → wrapping s ≡ 2
   two-wrap some = let a = few-wrap in let b = not-one in omega arith
 
+module _ (lent : ℕ) (s : List ℕ) (none : NoneHolds (allConditions lent) s) where
   strip-short : (wrapping s ≡ 0 → ⊥) → stripPoints s ≤ maxStrip
   unfolding longStrip
   strip-short some =
-      ltb-false maxStrip (stripPoints s) (ap (λ (t : Bool). t && (maxStrip <? stripPoints s)) (sym (eq-eqb (wrapping s) 2 (two-wrap some))) ∙ when-fails _ (stripPoints s) .0 (none 12))
+      ltb-false maxStrip (stripPoints s) (ap (λ (t : Bool). t && (maxStrip <? stripPoints s)) (sym (eq-eqb (wrapping s) 2 (two-wrap s (none 9) (none 10) some))) ∙ when-fails _ (stripPoints s) .0 (none 12))
 
   -- ---- refusal 8: a loop that wraps ends where it begins
 
