@@ -22,7 +22,8 @@ use Rattle.judgement.specs.Later.{loopIn, openRing, oneRing, manyRings, openSur
 use Rattle.judgement.proofs.Loops.{loops-many, measured-many}
 use Rattle.faces.specs.Held.{concat, HoldsLoops}
 use Rattle.measuring.specs.Refusals.{wrapsAt, closesAt, openAt, openAmong, wrappingOf, oneAmong, manyAmong, openKind}
-use Rattle.measuring.proofs.Measured.{pieces-concat, wrapsIn}
+use Rattle.measuring.specs.Wraps.{wrapsIn}
+use Rattle.measuring.proofs.Measured.{pieces-concat}
 
 -- ---- lists
 
@@ -67,12 +68,14 @@ module _ (s : List ℕ) where
   unfolding wrapsAt loopIn
   wraps-in k = ap wraps (getD-mapped (λ (m : Measured Vec3). m .wrap) (measuredIn s) k none)
 
-  corners-in : (k : ℕ) → loopIn s k .corners ≡ getD (loopsIn s) k []
-  unfolding loopIn measuredIn
+  -- the loops without their wraps
+  pub unmarked : map (λ (m : Measured Vec3). m .corners) (measuredIn s) ≡ loopsIn s
+  unfolding measuredIn
+  unmarked = map-map _ _ (loopsIn s) ∙ map-id (loopsIn s)
+
+  pub corners-in : (k : ℕ) → loopIn s k .corners ≡ getD (loopsIn s) k []
+  unfolding loopIn
   corners-in k = sym (getD-mapped (λ (m : Measured Vec3). m .corners) (measuredIn s) k none) ∙ ap (λ (l : List (Corners Vec3)). getD l k []) unmarked
-    where
-      unmarked : map (λ (m : Measured Vec3). m .corners) (measuredIn s) ≡ loopsIn s
-      unmarked = map-map _ _ (loopsIn s) ∙ map-id (loopsIn s)
 
   module _ (counts : List ℕ) (u v x y z : List Float) (h : HoldsLoops (loopsIn s) counts u v x y z) where
     -- one column of loop k

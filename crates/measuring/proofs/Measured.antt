@@ -17,10 +17,9 @@ use Rattle.lists.proofs.Pieces.{length-pieces}
 use Rattle.lists.proofs.Placed.{front-placed}
 use Rattle.loops.specs.Wrap.{netWrap}
 use Rattle.bands.specs.Corners.{Corner, Corners, us}
-use Rattle.bands.specs.Given.{Measured}
 use Rattle.judgement.specs.Face.{surfaceIn, loopsIn, wrapOf, measuredIn}
 use Rattle.faces.specs.Held.{concat, HoldsLoops}
-use Rattle.measuring.specs.Wraps.{wrapAlong}
+use Rattle.measuring.specs.Wraps.{wrapAlong, wrapsIn}
 
 -- ---- as the code finds them
 
@@ -53,24 +52,20 @@ wraps-along p [] = refl
 wraps-along p (l ∷ ls) = λ i. same-wrap p l i ∷ wraps-along p ls i
 
 module _ (s : List ℕ) where
-  -- the wraps that the judgement speaks of
-  abbrev pub wrapsIn : List ℤ
-  wrapsIn = map (λ (m : Measured Vec3). m .wrap) (measuredIn s)
-
-  wraps-measured : wrapsIn ≡ map (wrapOf (uPeriod (surfaceIn s))) (loopsIn s)
+  wraps-measured : wrapsIn s ≡ map (wrapOf (uPeriod (surfaceIn s))) (loopsIn s)
   unfolding measuredIn
   wraps-measured = map-map _ _ (loopsIn s)
 
   module _ (counts : List ℕ) (u v x y z : List Float) (h : HoldsLoops (loopsIn s) counts u v x y z) where
     -- what is put down as the wraps of the loops is what the record's loops have
-    pub wraps-held : map (wrapAlong (uPeriod (surfaceIn s))) (pieces counts u) ≡ wrapsIn
+    pub wraps-held : map (wrapAlong (uPeriod (surfaceIn s))) (pieces counts u) ≡ wrapsIn s
     wraps-held =
         ap (map (wrapAlong (uPeriod (surfaceIn s)))) ((λ i. pieces (h .counts-are i) (h .columns .u-is i)) ∙ pieces-concat (λ (c : Corner Vec3). c .u) (loopsIn s))
         ∙ wraps-along (uPeriod (surfaceIn s)) (loopsIn s) ∙ sym wraps-measured
 
     -- a slice with room for them shows them in its front
     pub wraps-shown : (w₀ w : List ℤ) → length counts ≤ length w₀ → w ≡ placed 0 (map (wrapAlong (uPeriod (surfaceIn s))) (pieces counts u)) w₀
-        → take (length counts) w ≡ wrapsIn
+        → take (length counts) w ≡ wrapsIn s
     wraps-shown w₀ w room e =
         let put : List ℤ = map (wrapAlong (uPeriod (surfaceIn s))) (pieces counts u) in
         let many : length put ≡ length counts = length-map (pieces counts u) (wrapAlong (uPeriod (surfaceIn s))) ∙ length-pieces counts u in

@@ -15,17 +15,17 @@ use Rattle.records.proofs.Search.{nowhere≢at, first-holds}
 use Rattle.judgement.specs.Face.{measuredIn, isWrapping, wrapping, givenIn}
 use Rattle.judgement.specs.Later.{loopIn}
 use Rattle.measuring.specs.Refusals.{wrapsAt, lastWhere}
-use Rattle.measuring.proofs.Measured.{wrapsIn}
+use Rattle.measuring.specs.Wraps.{wrapsIn}
 use Rattle.measuring.proofs.Judged.{none, wraps-in}
 
 -- ---- what is found last, in plain facts
 
-record Greatest (test : ℕ → Bool) (n p : ℕ) : Type 0 where
+pub record Greatest (test : ℕ → Bool) (n p : ℕ) : Type 0 where
   pub inside : p < n
   pub here : test p ≡ true
   pub behind : (j : ℕ) → p < j → j < n → test j ≡ false
 
-last-holds : (test : ℕ → Bool) (n p : ℕ) → lastWhere n test ≡ at p → Greatest test n p
+pub last-holds : (test : ℕ → Bool) (n p : ℕ) → lastWhere n test ≡ at p → Greatest test n p
 unfolding lastWhere
 last-holds test zero p e = absurd (nowhere≢at e)
 last-holds test (suc n) p e = by-test (test n) refl e (last-holds test n p)
@@ -46,7 +46,7 @@ last-holds test (suc n) p e = by-test (test n) refl e (last-holds test n p)
 -- ---- the first and the last of those that pass
 
 module _ {A : Type 0} (test : A → Bool) (d : A) where
-  only-first : (x : A) (l : List A) (t : Bool) → test x ≡ t → only test (x ∷ l) ≡ cond t (x ∷ only test l) (only test l)
+  pub only-first : (x : A) (l : List A) (t : Bool) → test x ≡ t → only test (x ∷ l) ≡ cond t (x ∷ only test l) (only test l)
   unfolding only
   only-first x l t e = ap (λ (b : Bool). cond b (x ∷ only test l) (only test l)) e
 
@@ -56,12 +56,12 @@ module _ {A : Type 0} (test : A → Bool) (d : A) where
   first-only (x ∷ l) (suc p) h t b =
       ap (λ (k : List A). getD k 0 d) (only-first x l false (b 0 (omega arith))) ∙ first-only l p (omega arith) t (λ j c. b (suc j) (omega arith))
 
-  none-passes : (l : List A) → ((j : ℕ) → j < length l → test (getD l j d) ≡ false) → only test l ≡ []
+  pub none-passes : (l : List A) → ((j : ℕ) → j < length l → test (getD l j d) ≡ false) → only test l ≡ []
   unfolding only
   none-passes [] b = refl
   none-passes (x ∷ l) b = rw (b 0 (omega arith)) (none-passes l (λ j c. b (suc j) (omega arith)))
 
-  one-passes : (l : List A) (p : ℕ) → p < length l → test (getD l p d) ≡ true → 0 < length (only test l)
+  pub one-passes : (l : List A) (p : ℕ) → p < length l → test (getD l p d) ≡ true → 0 < length (only test l)
   one-passes [] p h t = absurd (omega arith)
   one-passes (x ∷ l) zero h t = let e = ap length (only-first x l true t) in omega arith
   one-passes (x ∷ l) (suc p) h t = by-test (test x) refl (one-passes l p (omega arith) t)
@@ -92,7 +92,7 @@ module _ (s : List ℕ) where
   rings = only isWrapping (measuredIn s)
 
   module _ (two : wrapping s ≡ 2) where
-    as-many : length (wrapsIn s) ≡ length (measuredIn s)
+    pub as-many : length (wrapsIn s) ≡ length (measuredIn s)
     as-many = length-map (measuredIn s) _
 
     -- "Rings are taken last wrapping loop first"
