@@ -1,13 +1,16 @@
--- All elements but two: done to each, and how much they are together.
+-- All elements but two: done to each, and how much they are together. Lists one behind the other.
 use Prim.Native.Nat.{ℕ, zero, suc, _+_, _<_}
 use mathlib.Core.Path.{_≡_, refl, ap, _∙_}
 use mathlib.Core.Bool.{Bool, true, false, cond, _||_}
-use mathlib.Core.List.{List, [], _∷_, map}
+use mathlib.Core.List.{List, [], _∷_, _++_, map, append-assoc}
 use native.Mathlib.Omega.{arith}
 use borrow.Author.Tests.{eq-eqb, ne-eqb}
 use lib.Dec.{eqb}
-use lib.ListN.{length, getD}
+use lib.ListN.{length, getD, length-append, length-map}
+use lib.Seq.{take-at, drop-at}
+use Rattle.lists.specs.Pieces.{pieces}
 use Rattle.records.specs.Bytes.{sum}
+use Rattle.faces.specs.Held.{concat}
 use Rattle.holes.specs.Others.{isRing, othersFrom, others}
 use Rattle.holes.proofs.Picking.{others-first}
 
@@ -90,3 +93,23 @@ ones (x ∷ xs) = let n = ones xs in omega arith
 
 pub others-many : {A : Type 0} (d : A) (a b : ℕ) (xs : List A) → b < a → a < length xs → length (others a b xs) + 2 ≡ length xs
 others-many d a b xs h k = let s = others-sum (λ x. 1) d a b xs h k in let n = ones (others a b xs) in let m = ones xs in omega arith
+
+-- ---- lists one behind the other
+
+pub total-length : {A : Type 0} (xss : List (List A)) → sum (map length xss) ≡ length (concat xss)
+unfolding sum concat
+total-length [] = refl
+total-length (xs ∷ xss) = let n = total-length xss in let m = length-append xs (concat xss) in omega arith
+
+pub each-length : {A B : Type 0} (f : A → B) (xss : List (List A)) → map length (map (map f) xss) ≡ map length xss
+each-length f [] = refl
+each-length f (xs ∷ xss) = λ i. length-map xs f i ∷ each-length f xss i
+
+-- they are told apart by their lengths, whatever lies behind them
+pub pieces-front : {A : Type 0} (xss : List (List A)) (rest : List A) → pieces (map length xss) (concat xss ++ rest) ≡ xss
+unfolding pieces concat
+pieces-front [] rest = refl
+pieces-front (xs ∷ xss) rest =
+    ap (pieces (length xs ∷ map length xss)) (append-assoc xs (concat xss) rest)
+    ∙ (λ i. take-at xs (concat xss ++ rest) (length xs) refl i ∷ pieces (map length xss) (drop-at xs (concat xss ++ rest) (length xs) refl i))
+    ∙ ap (λ (l : List (List _)). xs ∷ l) (pieces-front xss rest)

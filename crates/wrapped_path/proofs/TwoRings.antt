@@ -1,25 +1,30 @@
 -- Where two loops wrap, they are the last and the first that do, and all others are holes.
 use Prim.Native.Nat.{ℕ, zero, suc, _+_, _≤_, _<_}
-use mathlib.Core.Path.{_≡_, refl, sym, ap, _∙_}
+use mathlib.Core.Path.{_≡_, refl, sym, ap, _∙_, subst}
 use mathlib.Core.Logic.{_⊎_, inl, inr}
 use mathlib.Core.Bool.{Bool, true, false, cond, true≢false}
-use mathlib.Core.List.{List, [], _∷_}
+use mathlib.Core.List.{List, [], _∷_, map}
 use native.Mathlib.Nat.{eq-or-lt-of-le}
 use native.Mathlib.Omega.{arith}
 use lib.ListN.{length, getD, length-map}
 use Rattle.numbers.specs.declared.math.Vec3.{Vec3}
-use Rattle.bands.specs.Given.{Measured, only, givenOf}
+use Rattle.bands.specs.Corners.{Corners}
+use Rattle.bands.specs.Given.{Measured, Loop, only, givenOf}
+use Rattle.records.specs.Bytes.{sum}
 use Rattle.records.specs.Refusals.{nowhere, at, firstWhere}
 use Rattle.records.proofs.Search.{Least, nowhere≢at, first-holds, first-fails}
 use Rattle.judgement.specs.Face.{loopsIn, measuredIn, isWrapping, wrapping, givenIn}
 use Rattle.judgement.specs.Later.{loopIn}
+use Rattle.judgement.proofs.Each.{all-getD}
+use Rattle.judgement.proofs.Loops.{measured-some}
+use Rattle.faces.specs.Held.{concat}
 use Rattle.measuring.specs.Refusals.{wrapsAt, lastWhere}
 use Rattle.measuring.specs.Wraps.{wrapsIn}
-use Rattle.measuring.proofs.Judged.{none, wraps-in, unmarked}
-use Rattle.measuring.proofs.RingsGiven.{Greatest, last-holds, only-first, none-passes, one-passes, as-many}
+use Rattle.measuring.proofs.Judged.{none, wraps-in, unmarked, corners-in}
+use Rattle.measuring.proofs.RingsGiven.{Greatest, last-holds, only-first, none-passes, one-passes, as-many, first-given, later-given}
 use Rattle.holes.specs.Others.{isRing, others}
 use Rattle.wrapped_path.proofs.Given.{others-are}
-use Rattle.wrapped_path.proofs.Others.{is-first, is-second, is-neither, others-many}
+use Rattle.wrapped_path.proofs.Others.{is-first, is-second, is-neither, others-sum, others-many, total-length}
 
 -- ---- what is found last, if anything passes
 
@@ -166,3 +171,32 @@ module _ (s : List ℕ) (two : wrapping s ≡ 2) where
 
     pub holes-many : length (givenIn s .holes) + 2 ≡ length (loopsIn s)
     holes-many = let e = ap length holes-given in let n = others-many [] a b (loopsIn s) apart inside in omega arith
+
+    -- ---- the rings are loops
+
+    pub first-corners : givenIn s .first .corners ≡ getD (loopsIn s) a []
+    first-corners = ap (λ (l : Loop Vec3). l .corners) (first-given s two a a-last) ∙ corners-in s a
+
+    pub later-corners : givenIn s .later .corners ≡ getD (loopsIn s) b []
+    later-corners = ap (λ (l : Loop Vec3). l .corners) (later-given s two b b-first) ∙ corners-in s b
+
+    ring-some : (k : ℕ) → isWrapping (loop k) ≡ true → 0 < length (loopIn s k .corners)
+    unfolding loopIn
+    ring-some k t = all-getD (measured-some s) k _ (λ e. absurd (true≢false (sym e))) t
+
+    pub first-some : 0 < length (givenIn s .first .corners)
+    first-some = subst (λ (l : Loop Vec3). 0 < length (l .corners)) (sym (first-given s two a a-last)) (ring-some a (a-passes .1))
+
+    pub later-some : 0 < length (givenIn s .later .corners)
+    later-some = subst (λ (l : Loop Vec3). 0 < length (l .corners)) (sym (later-given s two b b-first)) (ring-some b (b-passes .1))
+
+    -- holes and rings have all points of the loops
+    pub points-parted : length (concat (givenIn s .holes)) + (length (givenIn s .first .corners) + length (givenIn s .later .corners)) ≡ length (concat (loopsIn s))
+    points-parted =
+        let e = others-sum length [] a b (loopsIn s) apart inside in
+        let h = ap (λ (ls : List (Corners Vec3)). sum (map length ls)) holes-given in
+        let f = ap length first-corners in
+        let l = ap length later-corners in
+        let m = total-length (givenIn s .holes) in
+        let n = total-length (loopsIn s) in
+        omega arith

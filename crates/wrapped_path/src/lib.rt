@@ -7,6 +7,8 @@ ghost use Rattle.lists.specs.Placed.{placed};
 use measuring::piece::piece_of;
 use slices::copy_into;
 
+pub mod band;
+
 // One parameter or coordinate of loop k into the front of dst.
 fn ring_into(dst: &mut [f64], src: &[f64], counts: &[usize], k: usize)
     ensures { λ _. ⌜ now (dst .exit) ≡ placed 0 (getD (pieces (now (counts .entry)) (now (src .entry))) k []) (now (dst .entry)) ⌝ }
