@@ -99,27 +99,29 @@ module _ {A : Type 0} (period : Float) where
       outcome true false b h = e
       outcome true true b h = absurd (true≢false h)
 
-  onto-is : (lo : Float) (hole : Corners A) → positions (onto period lo hole) ≡ positions hole
-  unfolding onto
-  onto-is lo hole = map-unlessZero at _ unchanged (λ c. refl) _ hole ∙ unless-unchanged _ (positions hole)
+  -- what a corner keeps when it is moved in u, no step changes in a hole
+  module _ {B : Type 0} (part : Corner A → B) (kept : (f : Float → Float) (c : Corner A) → part (moveU f c) ≡ part c) where
+    onto-is : (lo : Float) (hole : Corners A) → map part (onto period lo hole) ≡ map part hole
+    unfolding onto
+    onto-is lo hole = map-unlessZero part _ unchanged (kept _) _ hole ∙ unless-unchanged _ (map part hole)
 
-  ontos-are : (lo : Float) (hs : List (Corners A)) → map positions (map (onto period lo) hs) ≡ map positions hs
-  ontos-are lo [] = refl
-  ontos-are lo (h ∷ hs) = λ i. onto-is lo h i ∷ ontos-are lo hs i
+    ontos-are : (lo : Float) (hs : List (Corners A)) → map (map part) (map (onto period lo) hs) ≡ map (map part) hs
+    ontos-are lo [] = refl
+    ontos-are lo (h ∷ hs) = λ i. onto-is lo h i ∷ ontos-are lo hs i
 
-  reseam-holes : (face : Face A) → map positions (reseam period face .holes) ≡ map positions (face .holes)
-  unfolding reseam onStrip cutAnew
-  reseam-holes face = outcome (hasStrip period face) (acrossSeam period face) (hasGap period face)
-    where
-      on : map positions (onStrip period face .holes) ≡ map positions (face .holes)
-      on = ontos-are (seam period face) (face .holes)
+    reseam-holes : (face : Face A) → map (map part) (reseam period face .holes) ≡ map (map part) (face .holes)
+    unfolding reseam onStrip cutAnew
+    reseam-holes face = outcome (hasStrip period face) (acrossSeam period face) (hasGap period face)
+      where
+        on : map (map part) (onStrip period face .holes) ≡ map (map part) (face .holes)
+        on = ontos-are (seam period face) (face .holes)
 
-      outcome : (s t b : Bool)
-          → map positions (cond s (cond t (cond b (cutAnew period face) (onStrip period face)) (onStrip period face)) face .holes) ≡ map positions (face .holes)
-      outcome false t b = refl
-      outcome true false b = on
-      outcome true true false = on
-      outcome true true true = ontos-are (gapOf period face .cut) (onStrip period face .holes) ∙ on
+        outcome : (s t b : Bool)
+            → map (map part) (cond s (cond t (cond b (cutAnew period face) (onStrip period face)) (onStrip period face)) face .holes) ≡ map (map part) (face .holes)
+        outcome false t b = refl
+        outcome true false b = on
+        outcome true true false = on
+        outcome true true true = ontos-are (gapOf period face .cut) (onStrip period face .holes) ∙ on
 
   begun-turn : (k : ℕ) (r : Corners A) → Turn (positions r) (positions (beginRingAt (raised period) k r))
   begun-turn k r =
@@ -171,9 +173,14 @@ module _ {A : Type 0} (S : Setting A) where
   unfolding outer
   outer-is given = map-dropRepeats at (S .same) keep (λ kept x. refl) (stripOf S given)
 
-  pub holes-are : (given : Given A) → map positions (holes S given) ≡ map positions (given .holes)
+  -- holes are moved in u alone
+  pub holes-keep : {B : Type 0} (part : Corner A → B) → ((f : Float → Float) (c : Corner A) → part (moveU f c) ≡ part c) → (given : Given A)
+      → map (map part) (holes S given) ≡ map (map part) (given .holes)
   unfolding holes joined started trial laid
-  holes-are given = reseam-holes (S .period) (laid (S .period) given)
+  holes-keep part kept given = reseam-holes (S .period) part kept (laid (S .period) given)
+
+  pub holes-are : (given : Given A) → map positions (holes S given) ≡ map positions (given .holes)
+  holes-are = holes-keep at (λ f c. refl)
 
   module _ (given : Given A) (clear : acrossSeam (S .period) (laid (S .period) given) ≡ false) where
     first-turn : Turn (ring (given .first)) (positions (joined S given .first))

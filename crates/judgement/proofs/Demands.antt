@@ -149,13 +149,14 @@ lent-kept lent s b h = lent-stays laterConditions resultIn lent s b h (can-be-wr
 
 -- ---- demand 3
 
--- loops have the positions of their corners, whatever their areas
-loops-of-positions : (areas : List Float) (ls : List (Corners Vec3)) → length ls ≡ length areas → map (λ (l : ResultLoop). positions (l .corners)) (loopsFrom areas ls) ≡ map positions ls
+-- loops have the corners that they are made of, whatever their areas
+pub loops-of-each : {B : Type 0} (f : Corners Vec3 → B) (areas : List Float) (ls : List (Corners Vec3)) → length ls ≡ length areas
+    → map (λ (l : ResultLoop). f (l .corners)) (loopsFrom areas ls) ≡ map f ls
 unfolding loopsFrom
-loops-of-positions [] [] e = refl
-loops-of-positions [] (l ∷ ls) e = absurd (omega arith)
-loops-of-positions (a ∷ areas) [] e = refl
-loops-of-positions (a ∷ areas) (l ∷ ls) e = ap (λ (r : List (List Vec3)). positions l ∷ r) (loops-of-positions areas ls (omega arith))
+loops-of-each f [] [] e = refl
+loops-of-each f [] (l ∷ ls) e = absurd (omega arith)
+loops-of-each f (a ∷ areas) [] e = refl
+loops-of-each {B} f (a ∷ areas) (l ∷ ls) e = ap (λ (r : List B). f l ∷ r) (loops-of-each f areas ls (omega arith))
 
 module _ (s : List ℕ) (two : wrapping s ≡ 2) where
   some-loops : loops s ≡ 0 → ⊥
@@ -171,7 +172,7 @@ module _ (s : List ℕ) (two : wrapping s ≡ 2) where
   unfolding wrappedLoops
   wrapped-positions =
       ap (λ (r : List (List Vec3)). positions (outer (settingIn s) (givenIn s)) ∷ r)
-      (loops-of-positions (map signedArea (givenIn s .holes)) (holes (settingIn s) (givenIn s)) (holes-as-many s ∙ sym (length-map (givenIn s .holes) signedArea)))
+      (loops-of-each positions (map signedArea (givenIn s .holes)) (holes (settingIn s) (givenIn s)) (holes-as-many s ∙ sym (length-map (givenIn s .holes) signedArea)))
 
 -- 01, demand 3
 pub demand-3 : (lent : ℕ) (s : List ℕ) → BandDemand lent s
