@@ -1,7 +1,7 @@
 -- What the closed path answers, from the arrays that hold the moved loops.
 use Prim.Native.Nat.{ℕ, suc, _+_, _<_}
 use mathlib.Core.Path.{_≡_, refl, sym, ap, _∙_}
-use mathlib.Core.List.{List, [], _∷_, _++_, map}
+use mathlib.Core.List.{List, [], _∷_, _++_, map, map-append}
 use native.Mathlib.Numerals.{add-one}
 use native.Mathlib.Omega.{arith}
 use lib.ListN.{length, getD, take, drop, length-append, length-map}
@@ -18,7 +18,7 @@ use Rattle.judgement.specs.Face.{cornersFrom}
 use Rattle.judgement.specs.Paths.{ResultLoop, signedArea, branchOf, outerNumber, outerLoop, rephasedHole, closedLoops}
 use Rattle.faces.specs.Held.{concat, HoldsResult}
 use Rattle.closed_path.specs.First.{partFirst}
-use Rattle.closed_path.proofs.Behind.{map-append, concat-cons, concat-append, first-between}
+use Rattle.closed_path.proofs.Behind.{concat-cons, concat-append, first-between}
 use Rattle.closed_path.proofs.Holes.{usOf, vsOf, areasIn, given, rephased-us, rephased-vs, hole, movedFrom, moved-are, apart}
 
 -- ---- corners put together of their columns

@@ -12,15 +12,6 @@ use Rattle.faces.specs.Held.{concat}
 use Rattle.closed_path.specs.Table.{startsFrom, startsOf}
 use Rattle.closed_path.specs.First.{partFirst}
 
-pub map-append : {A B : Type 0} (f : A → B) (xs ys : List A) → map f (xs ++ ys) ≡ map f xs ++ map f ys
-map-append f [] ys = refl
-map-append f (x ∷ xs) ys = ap (λ (l : List _). f x ∷ l) (map-append f xs ys)
-
-pub map-concat : {A B : Type 0} (f : A → B) (xss : List (List A)) → map f (concat xss) ≡ concat (map (map f) xss)
-unfolding concat
-map-concat f [] = refl
-map-concat f (xs ∷ xss) = map-append f xs (concat xss) ∙ ap (λ (l : List _). map f xs ++ l) (map-concat f xss)
-
 module _ {A : Type 0} where
   pub concat-cons : (x : List A) (xss : List (List A)) → concat (x ∷ xss) ≡ x ++ concat xss
   unfolding concat

@@ -2,7 +2,7 @@
 use Prim.Native.Nat.{ℕ, zero, suc, _+_, _≤_, _<_, min}
 use mathlib.Core.Path.{_≡_, refl, sym, ap, _∙_}
 use mathlib.Core.Bool.{Bool, true, false, cond, _&&_}
-use mathlib.Core.List.{List, [], _∷_, _++_, map, append-nil}
+use mathlib.Core.List.{List, [], _∷_, _++_, map, append-nil, map-append}
 use native.Mathlib.Omega.{arith}
 use lib.Dec.{eqb, ltb}
 use lib.ListN.{length, getD, set, take, drop, length-append, length-map}
@@ -22,7 +22,7 @@ use Rattle.judgement.specs.Paths.{signedArea, branchOf}
 use Rattle.faces.specs.Held.{concat}
 use Rattle.closed_path.specs.Table.{startsOf}
 use Rattle.closed_path.proofs.table.Laws.{length-starts}
-use Rattle.closed_path.proofs.Behind.{map-append, concat-cons, concat-append, part-between, start-is}
+use Rattle.closed_path.proofs.Behind.{concat-cons, concat-append, part-between, start-is}
 
 -- the arrays that hold some loops
 abbrev pub usOf : List Loop → List (List Float)

@@ -17,22 +17,18 @@ use Rattle.regions.specs.Rephase.{Arrays, arrays, rephaseHoles}
 use Rattle.bands.specs.Corners.{Corners, us, vs}
 use Rattle.judgement.specs.Paths.{boundsOf, signedArea, outerNumber}
 use Rattle.faces.specs.Held.{concat}
+use Rattle.faces.proofs.Concat.{map-concat, lengths-each}
 use Rattle.closed_path.specs.Table.{startsOf, areasOf}
 use Rattle.closed_path.specs.First.{partFirst}
 use Rattle.closed_path.specs.Path.{HoldsParameters, RoomEach, startsIn, rephasedArrays}
-use Rattle.closed_path.proofs.Behind.{map-concat, loops-are}
+use Rattle.closed_path.proofs.Behind.{loops-are}
 use Rattle.closed_path.proofs.table.Laws.{length-starts}
-
--- a column of the loops has as many entries in each as the loop has corners
-lengths : {A : Type 0} (f : A → Float) (ls : List (List A)) → map length (map (map f) ls) ≡ map length ls
-lengths f [] = refl
-lengths f (l ∷ ls) = λ i. length-map l f i ∷ lengths f ls i
 
 -- the table finds a column of each loop
 column-loops : {A : Type 0} (f : A → Float) (ls : List (List A)) → loopsOf (startsOf (length (concat ls)) (map length ls)) (map length ls) (map f (concat ls)) ≡ map (map f) ls
 column-loops f ls =
     let long : length (concat ls) ≡ length (concat (map (map f) ls)) = sym (length-map (concat ls) f) ∙ ap length (map-concat f ls) in
-    (λ i. loopsOf (startsOf (length (concat ls)) (sym (lengths f ls) i)) (sym (lengths f ls) i) (map-concat f ls i)) ∙ loops-are (map (map f) ls) (length (concat ls)) long
+    (λ i. loopsOf (startsOf (length (concat ls)) (sym (lengths-each f ls) i)) (sym (lengths-each f ls) i) (map-concat f ls i)) ∙ loops-are (map (map f) ls) (length (concat ls)) long
 
 boxes-are : (ls : List (Corners Vec3)) → boxesOf (map us ls) (map vs ls) ≡ map boundsOf ls
 unfolding boxesOf
