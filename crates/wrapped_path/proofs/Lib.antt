@@ -1,3 +1,4 @@
 pub mod Given
 pub mod Others
 pub mod TwoRings
+pub mod Behind

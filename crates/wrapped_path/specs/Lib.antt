@@ -1,1 +1,2 @@
 pub mod Band
+pub mod Result

@@ -1,4 +1,4 @@
-// The wrapped path on parallel slices: a ring of a face by itself.
+// The wrapped path on parallel slices: a ring of a face by itself, and the holes behind the band.
 ghost use mathlib.Core.Path.{_≡_};
 ghost use mathlib.Core.List.{[]};
 ghost use lib.ListN.{getD};
@@ -8,6 +8,7 @@ use measuring::piece::piece_of;
 use slices::copy_into;
 
 pub mod band;
+pub mod result;
 
 // One parameter or coordinate of loop k into the front of dst.
 fn ring_into(dst: &mut [f64], src: &[f64], counts: &[usize], k: usize)
