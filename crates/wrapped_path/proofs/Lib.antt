@@ -2,3 +2,4 @@ pub mod Given
 pub mod Others
 pub mod TwoRings
 pub mod Behind
+pub mod Wrapped

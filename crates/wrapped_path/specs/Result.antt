@@ -7,7 +7,10 @@ use lib.ListN.{length, take}
 use Rattle.numbers.specs.declared.math.Vec3.{Vec3}
 use Rattle.bands.specs.Corners.{Corners, us, vs, positions}
 use Rattle.bands.specs.Columns.{xs, ys, zs, Columns}
-use Rattle.judgement.specs.Paths.{loopOf, loopsFrom}
+use Rattle.bands.specs.Given.{Given}
+use Rattle.bands.specs.Strip.{Setting}
+use Rattle.bands.specs.Band.{outer, holes}
+use Rattle.judgement.specs.Paths.{ResultLoop, loopOf, signedArea, withArea, loopsFrom}
 use Rattle.faces.specs.Held.{concat, HoldsResult}
 use Rattle.holes.specs.Others.{others}
 
@@ -38,7 +41,11 @@ pub record RoomBehind (n : ℕ) (hs : List (Corners Vec3)) (ru rv rx ry rz : Lis
 -- `reseam` moved the hole."
 pub record BehindAs (hu v x y z : List Float) (counts : List ℕ) (areas : List Float) (a b n : ℕ) (area : Float)
     (ru rv rx ry rz : List Float) (rcounts : List ℕ) (rareas ru′ rv′ rx′ ry′ rz′ : List Float) (rcounts′ : List ℕ) (rareas′ : List Float) : Type 0 where
-  pub holds : (ls hs : List (Corners Vec3)) (outer : Corners Vec3) → HoldsHoles a b ls hs hu v x y z counts areas
-      → n ≡ length outer → Columns outer (take n ru) (take n rv) (take n rx) (take n ry) (take n rz) → RoomBehind n hs ru rv rx ry rz rcounts rareas
-      → (let m = n + length (concat hs) in HoldsResult (loopOf area outer ∷ loopsFrom (others a b areas) hs)
+  pub holds : (ls hs : List (Corners Vec3)) (first : Corners Vec3) → HoldsHoles a b ls hs hu v x y z counts areas
+      → n ≡ length first → Columns first (take n ru) (take n rv) (take n rx) (take n ry) (take n rz) → RoomBehind n hs ru rv rx ry rz rcounts rareas
+      → (let m = n + length (concat hs) in HoldsResult (loopOf area first ∷ loopsFrom (others a b areas) hs)
       (take (suc (length hs)) rcounts′) (take (suc (length hs)) rareas′) (take m ru′) (take m rv′) (take m rx′) (take m ry′) (take m rz′))
+
+-- The wrapped path on any surface: "the band is the strip less the repeats of item 5", then the holes.
+unfoldable pub wrappedOn : Setting Vec3 → Given Vec3 → List ResultLoop
+wrappedOn S given = withArea (outer S given) ∷ loopsFrom (map signedArea (given .holes)) (holes S given)

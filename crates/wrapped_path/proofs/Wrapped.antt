@@ -1,0 +1,95 @@
+-- The band with the holes behind it is the wrapped path's result.
+use Prim.Native.Nat.{ℕ, suc, _+_}
+use mathlib.Core.Path.{_≡_, refl, sym, ap, _∙_, subst}
+use mathlib.Core.List.{List, [], _∷_, _++_, map}
+use native.Mathlib.Omega.{arith}
+use lib.Ieee.{Float}
+use lib.ListN.{length, take, drop, length-map, length-append, length-drop, take-append-drop}
+use Rattle.numbers.specs.declared.math.Vec3.{Vec3}
+use Rattle.lists.specs.Pieces.{pieces}
+use Rattle.bands.specs.Corners.{Corner, Corners, us, positions}
+use Rattle.bands.specs.Columns.{Columns}
+use Rattle.bands.specs.Given.{Given}
+use Rattle.bands.specs.Strip.{Setting}
+use Rattle.bands.specs.Band.{outer, holes}
+use Rattle.bands.proofs.Demand.{holes-keep, holes-are}
+use Rattle.judgement.specs.Face.{settingIn, givenIn}
+use Rattle.judgement.specs.Paths.{ResultLoop, loopOf, signedArea, loopsFrom, wrappedLoops}
+use Rattle.faces.specs.Held.{concat, HoldsLoops, HoldsResult}
+use Rattle.faces.proofs.Concat.{map-concat, lengths-each}
+use Rattle.holes.specs.Others.{others}
+use Rattle.holes.proofs.Others.{map-others}
+use Rattle.wrapped_path.specs.Result.{HoldsHoles, RoomBehind, BehindAs, wrappedOn}
+
+-- judgement's wrapped path is this one, of the surface and the loops in the record
+pub wrapped-in : (s : List ℕ) → wrappedLoops s ≡ wrappedOn (settingIn s) (givenIn s)
+unfolding wrappedLoops wrappedOn
+wrapped-in s = refl
+
+-- ---- the holes that the strip takes
+
+module _ (S : Setting Vec3) (g : Given Vec3) where
+  pub counts-kept : map length (holes S g) ≡ map length (g .holes)
+  counts-kept = sym (lengths-each _ (holes S g)) ∙ ap (map length) (holes-are S g) ∙ lengths-each _ (g .holes)
+
+  pub as-many-kept : length (holes S g) ≡ length (g .holes)
+  as-many-kept = sym (length-map (holes S g) length) ∙ ap length counts-kept ∙ length-map (g .holes) length
+
+  pub points-kept : length (concat (holes S g)) ≡ length (concat (g .holes))
+  points-kept =
+      sym (length-map (concat (holes S g)) _) ∙ ap length (map-concat _ (holes S g) ∙ ap concat (holes-are S g) ∙ sym (map-concat _ (g .holes)))
+      ∙ length-map (concat (g .holes)) (λ (c : Corner Vec3). c .at)
+
+-- pieces that leave nothing over, one behind the other, are the list
+concat-pieces : {A B : Type 0} (ls : List (List B)) (w : List A) → length w ≡ length (concat ls) → concat (pieces (map length ls) w) ≡ w
+unfolding concat pieces
+concat-pieces [] [] e = refl
+concat-pieces [] (x ∷ w) e = absurd (omega arith)
+concat-pieces {A} (l ∷ ls) w e =
+    let both = length-append l (concat ls) in
+    let rest = length-drop (length l) w in
+    ap (λ (r : List A). take (length l) w ++ r) (concat-pieces ls (drop (length l) w) (omega arith)) ∙ take-append-drop (length l) w
+
+-- where the pieces of a list are the u of the holes, the list is their u, one hole behind the other
+pub u-held : (S : Setting Vec3) (g : Given Vec3) (hu : List Float) → length hu ≡ length (concat (g .holes)) → pieces (map length (g .holes)) hu ≡ map us (holes S g)
+    → hu ≡ us (concat (holes S g))
+u-held S g hu long e = sym (concat-pieces (g .holes) hu long) ∙ ap concat e ∙ sym (map-concat _ (holes S g))
+
+-- ---- the result
+
+module _ (S : Setting Vec3) (g : Given Vec3) (a b : ℕ) (ls : List (Corners Vec3)) (holes-given : g .holes ≡ others a b ls) where
+  abbrev hs : List (Corners Vec3)
+  hs = holes S g
+
+  holes-held : (counts : List ℕ) (u v x y z hu areas : List Float) → HoldsLoops ls counts u v x y z → hu ≡ us (concat hs) → areas ≡ map signedArea ls
+      → HoldsHoles a b ls hs hu v x y z counts areas
+  holes-held counts u v x y z hu areas h hu-is areas-are = record {
+    same-v = holes-keep S (λ (c : Corner Vec3). c .v) (λ f c. refl) g ∙ ap (map _) holes-given;
+    same-positions = holes-are S g ∙ ap (map positions) holes-given;
+    u-is = hu-is;
+    v-is = h .columns .v-is;
+    x-is = h .columns .x-is;
+    y-is = h .columns .y-is;
+    z-is = h .columns .z-is;
+    counts-are = h .counts-are;
+    an-area-each = ap length areas-are ∙ length-map ls signedArea;
+  }
+
+  result-is : (area : Float) (areas : List Float) → area ≡ signedArea (outer S g) → areas ≡ map signedArea ls
+      → loopOf area (outer S g) ∷ loopsFrom (others a b areas) hs ≡ wrappedOn S g
+  unfolding wrappedOn
+  result-is area areas area-is areas-are =
+      let of-holes : others a b areas ≡ map signedArea (g .holes) = ap (others a b) areas-are ∙ map-others a b signedArea 0 ls ∙ ap (map signedArea) (sym holes-given) in
+      λ i. loopOf (area-is i) (outer S g) ∷ loopsFrom (of-holes i) hs
+
+  pub wrapped-held : (counts : List ℕ) (u v x y z hu areas : List Float) (n : ℕ) (area : Float)
+      (ru rv rx ry rz : List Float) (rcounts : List ℕ) (rareas ru′ rv′ rx′ ry′ rz′ : List Float) (rcounts′ : List ℕ) (rareas′ : List Float)
+      → BehindAs hu v x y z counts areas a b n area ru rv rx ry rz rcounts rareas ru′ rv′ rx′ ry′ rz′ rcounts′ rareas′
+      → HoldsLoops ls counts u v x y z → hu ≡ us (concat hs) → areas ≡ map signedArea ls → n ≡ length (outer S g) → area ≡ signedArea (outer S g)
+      → Columns (outer S g) (take n ru) (take n rv) (take n rx) (take n ry) (take n rz) → RoomBehind n hs ru rv rx ry rz rcounts rareas
+      → (let m = n + length (concat hs) in HoldsResult (wrappedOn S g)
+      (take (suc (length hs)) rcounts′) (take (suc (length hs)) rareas′) (take m ru′) (take m rv′) (take m rx′) (take m ry′) (take m rz′))
+  wrapped-held counts u v x y z hu areas n area ru rv rx ry rz rcounts rareas ru′ rv′ rx′ ry′ rz′ rcounts′ rareas′ behind h hu-is areas-are n-is area-is front room =
+      let m : ℕ = n + length (concat hs) in
+      subst (λ (l : List ResultLoop). HoldsResult l (take (suc (length hs)) rcounts′) (take (suc (length hs)) rareas′) (take m ru′) (take m rv′) (take m rx′) (take m ry′) (take m rz′))
+      (result-is area areas area-is areas-are) (behind .holds ls hs (outer S g) (holes-held counts u v x y z hu areas h hu-is areas-are) n-is front room)
