@@ -29,7 +29,7 @@ use Rattle.bands.specs.Rings.{Face, rising, shifted, laid, raised, seam,
 use Rattle.bands.specs.Strip.{Setting, heights, wall, strip}
 use Rattle.bands.specs.Band.{pick, pickLoop, joined, lowerFirst, lower, upper, lowerRing, upperRing, stripOf, outer, holes}
 use Rattle.bands.specs.Demand.{ring, Turn, Whole, Demand3}
-use Rattle.bands.proofs.Lengths.{length-first, length-later}
+use Rattle.bands.proofs.Lengths.{lengths-each, length-first, length-later}
 
 module _ {A : Type 0} where
   abbrev at : Corner A → A
@@ -181,6 +181,12 @@ module _ {A : Type 0} (S : Setting A) where
 
   pub holes-are : (given : Given A) → map positions (holes S given) ≡ map positions (given .holes)
   holes-are = holes-keep at (λ f c. refl)
+
+  pub holes-counts : (given : Given A) → map length (holes S given) ≡ map length (given .holes)
+  holes-counts given = sym (lengths-each at (holes S given)) ∙ ap (map length) (holes-are given) ∙ lengths-each at (given .holes)
+
+  pub holes-as-many : (given : Given A) → length (holes S given) ≡ length (given .holes)
+  holes-as-many given = sym (length-map (holes S given) length) ∙ ap length (holes-counts given) ∙ length-map (given .holes) length
 
   module _ (given : Given A) (clear : acrossSeam (S .period) (laid (S .period) given) ≡ false) where
     first-turn : Turn (ring (given .first)) (positions (joined S given .first))

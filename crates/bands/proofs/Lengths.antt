@@ -1,8 +1,8 @@
--- No step before the strip changes how many points a ring has.
+-- No step before the strip changes how many points a loop has.
 use Prim.Native.Nat.{ℕ}
 use mathlib.Core.Path.{_≡_, refl, _∙_}
 use mathlib.Core.Bool.{Bool, true, false, cond}
-use mathlib.Core.List.{reverse}
+use mathlib.Core.List.{List, [], _∷_, map, reverse}
 use lib.Ieee.{Float, nan}
 use lib.ListN.{length, getD, length-map, length-reverse}
 use Rattle.numbers.specs.Rounded.{_⊕_, _⊖_}
@@ -14,6 +14,11 @@ use Rattle.rings.proofs.Lengths.{length-if, length-begun, length-beginRingAt, l
 use Rattle.bands.specs.Corners.{Corners, us, moveU}
 use Rattle.bands.specs.Given.{Loop, Given}
 use Rattle.bands.specs.Rings.{Face, rising, raised, lessU, shifted, laid, recut, onStrip, cutAnew, hasStrip, acrossSeam, hasGap, reseam, alignCuts, slideToCut, trial, started}
+
+-- a column of some lists has as many elements in each as the list has
+pub lengths-each : {A B : Type 0} (f : A → B) (xss : List (List A)) → map length (map (map f) xss) ≡ map length xss
+lengths-each f [] = refl
+lengths-each f (xs ∷ xss) = λ i. length-map xs f i ∷ lengths-each f xss i
 
 module _ {A : Type 0} where
   pub length-rising : (l : Loop A) → length (rising l) ≡ length (l .corners)

@@ -17,7 +17,7 @@ use Rattle.bands.specs.Band.{outer, holes}
 use Rattle.bands.specs.Corners.{Corners, positions}
 use Rattle.bands.specs.Demand.{Demand3}
 use Rattle.bands.specs.Given.{Measured, only, givenOf}
-use Rattle.bands.proofs.Demand.{demand3}
+use Rattle.bands.proofs.Demand.{holes-as-many, demand3}
 use Rattle.bands.specs.Demand.{Whole}
 use Rattle.records.specs.Bytes.{sum, _<?_}
 use Rattle.records.specs.Call.{closed, lentAfter}
@@ -36,7 +36,7 @@ use Rattle.judgement.specs.Paths.{ResultLoop, signedArea, loopsFrom, wra
 use Rattle.judgement.proofs.Each.{all-in, all-at, all-reverse, all-only}
 use Rattle.judgement.proofs.Loops.{measured-many, measured-some}
 use Rattle.judgement.proofs.Sizes.{only-few, only-none}
-use Rattle.judgement.proofs.Written.{holes-as-many, Fine, result-fine, result-writable}
+use Rattle.judgement.proofs.Written.{Fine, result-fine, result-writable}
 
 compared : (s : List ℕ) → PartialEquivalence (settingIn s .same)
 unfolding settingIn
@@ -172,7 +172,7 @@ module _ (s : List ℕ) (two : wrapping s ≡ 2) where
   unfolding wrappedLoops
   wrapped-positions =
       ap (λ (r : List (List Vec3)). positions (outer (settingIn s) (givenIn s)) ∷ r)
-      (loops-of-each positions (map signedArea (givenIn s .holes)) (holes (settingIn s) (givenIn s)) (holes-as-many s ∙ sym (length-map (givenIn s .holes) signedArea)))
+      (loops-of-each positions (map signedArea (givenIn s .holes)) (holes (settingIn s) (givenIn s)) (holes-as-many (settingIn s) (givenIn s) ∙ sym (length-map (givenIn s .holes) signedArea)))
 
 -- 01, demand 3
 pub demand-3 : (lent : ℕ) (s : List ℕ) → BandDemand lent s

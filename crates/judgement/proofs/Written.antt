@@ -1,6 +1,6 @@
 -- The result of each path can be written: few loops, few corners, all of doubles.
 use Prim.Native.Nat.{ℕ, _+_, _≤_}
-use mathlib.Core.Path.{_≡_, refl, sym, ap, _∙_}
+use mathlib.Core.Path.{_≡_, refl, ap}
 use mathlib.Core.Bool.{Bool, true, false, cond, _&&_}
 use mathlib.Core.List.{List, [], _∷_, map}
 use native.Mathlib.Omega.{arith}
@@ -29,7 +29,7 @@ use Rattle.whole.specs.Boundary.{sides, sidesOf, uRungs, vRungs, wholeCorners, 
 use Rattle.whole.proofs.boundary.Meaning.{few-corners}
 use Rattle.bands.specs.Band.{stripOf, outer, holes}
 use Rattle.bands.specs.Corners.{Corner, Corners, us, vs, positions}
-use Rattle.bands.proofs.Demand.{holes-are}
+use Rattle.bands.proofs.Demand.{holes-counts, holes-as-many}
 use Rattle.records.specs.Bytes.{sum, _=?_}
 use Rattle.records.specs.Face.{loops, points}
 use Rattle.records.specs.Limits.{maxLoops, maxPoints, maxStrip}
@@ -120,10 +120,10 @@ module _ (b : Branch) where
       let e = length-map r (λ (c : Corner Vec3). c .at) in
       omega arith
 
-  holes-counts : (ls : List (Corners Vec3)) → sum (map countOf (map (rephasedHole b) ls)) ≤ total ls
+  rephased-counts : (ls : List (Corners Vec3)) → sum (map countOf (map (rephasedHole b) ls)) ≤ total ls
   unfolding sum
-  holes-counts [] = omega arith
-  holes-counts (l ∷ ls) = let a = hole-few l in let h = holes-counts ls in omega arith
+  rephased-counts [] = omega arith
+  rephased-counts (l ∷ ls) = let a = hole-few l in let h = rephased-counts ls in omega arith
 
 module _ (s : List ℕ) (loops-are : loops s ≤ maxLoops) (points-are : points s ≤ maxPoints) where
   rest-fits : (n : ℕ) → All FitsCorners (holesOf n (loopsIn s))
@@ -139,7 +139,7 @@ module _ (s : List ℕ) (loops-are : loops s ≤ maxLoops) (points-are : points 
       let all = loops-many s in
       let long = length-map rest (rephasedHole b) in
       let fewer = holes-few n (loopsIn s) in
-      let counts = holes-counts b rest in
+      let counts = rephased-counts b rest in
       let within = holes-total n (loopsIn s) in
       let given = loops-total s in
       record {
@@ -169,21 +169,9 @@ loops-of-fit none hs = none
 loops-of-fit (and a areas) none = none
 loops-of-fit (and a areas) (and h hs) = and (record { area = a; corners = h }) (loops-of-fit areas hs)
 
--- as many positions, as many corners
-lengths-of : (ls : List (Corners Vec3)) → map length (map positions ls) ≡ map length ls
-lengths-of [] = refl
-lengths-of (l ∷ ls) = λ i. length-map l (λ (c : Corner Vec3). c .at) i ∷ lengths-of ls i
-
 module _ (s : List ℕ) where
   abbrev after : List (Corners Vec3)
   after = holes (settingIn s) (givenIn s)
-
-  -- the holes have the points that they were given
-  holes-same : map length after ≡ map length (givenIn s .holes)
-  holes-same = sym (lengths-of after) ∙ ap (map length) (holes-are (settingIn s) (givenIn s)) ∙ lengths-of (givenIn s .holes)
-
-  pub holes-as-many : length after ≡ length (givenIn s .holes)
-  holes-as-many = sym (length-map after length) ∙ ap length holes-same ∙ length-map (givenIn s .holes) length
 
   abbrev areas : List Float
   areas = map signedArea (givenIn s .holes)
@@ -208,8 +196,8 @@ module _ (s : List ℕ) (loops-are : loops s ≤ maxLoops) (points-are : points 
       let first = outer-few in
       let few = loops-of-few (areas s) (after s) in
       let counts = loops-of-counts (areas s) (after s) in
-      let long = holes-as-many s in
-      let points-of = ap sum (holes-same s) in
+      let long = holes-as-many (settingIn s) (givenIn s) in
+      let points-of = ap sum (holes-counts (settingIn s) (givenIn s)) in
       let many = holes-many s in
       let given = holes-points s in
       record {

@@ -12,11 +12,12 @@ use Rattle.lists.specs.Pieces.{pieces}
 use Rattle.lists.specs.Placed.{placed}
 use Rattle.lists.proofs.Placed.{placed-fits, take-placed, front-placed}
 use Rattle.bands.specs.Corners.{Corner, Corners, positions}
+use Rattle.bands.proofs.Lengths.{lengths-each}
 use Rattle.records.specs.Result.{cornersOf, countOf, areaOf}
 use Rattle.judgement.specs.Paths.{ResultLoop, loopOf, loopsFrom}
 use Rattle.judgement.proofs.Demands.{loops-of-each}
 use Rattle.faces.specs.Held.{concat}
-use Rattle.faces.proofs.Concat.{map-concat, lengths-each}
+use Rattle.faces.proofs.Concat.{map-concat}
 use Rattle.holes.specs.Others.{others}
 use Rattle.holes.proofs.Others.{map-others, others-as-many}
 use Rattle.measuring.proofs.Measured.{pieces-concat}

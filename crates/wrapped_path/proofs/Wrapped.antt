@@ -16,7 +16,7 @@ use Rattle.bands.proofs.Demand.{holes-keep, holes-are}
 use Rattle.judgement.specs.Face.{settingIn, givenIn}
 use Rattle.judgement.specs.Paths.{ResultLoop, loopOf, signedArea, loopsFrom, wrappedLoops}
 use Rattle.faces.specs.Held.{concat, HoldsLoops, HoldsResult}
-use Rattle.faces.proofs.Concat.{map-concat, lengths-each}
+use Rattle.faces.proofs.Concat.{map-concat}
 use Rattle.holes.specs.Others.{others}
 use Rattle.holes.proofs.Others.{map-others}
 use Rattle.wrapped_path.specs.Result.{HoldsHoles, RoomBehind, BehindAs, wrappedOn}
@@ -28,17 +28,10 @@ wrapped-in s = refl
 
 -- ---- the holes that the strip takes
 
-module _ (S : Setting Vec3) (g : Given Vec3) where
-  pub counts-kept : map length (holes S g) ≡ map length (g .holes)
-  counts-kept = sym (lengths-each _ (holes S g)) ∙ ap (map length) (holes-are S g) ∙ lengths-each _ (g .holes)
-
-  pub as-many-kept : length (holes S g) ≡ length (g .holes)
-  as-many-kept = sym (length-map (holes S g) length) ∙ ap length counts-kept ∙ length-map (g .holes) length
-
-  pub points-kept : length (concat (holes S g)) ≡ length (concat (g .holes))
-  points-kept =
-      sym (length-map (concat (holes S g)) _) ∙ ap length (map-concat _ (holes S g) ∙ ap concat (holes-are S g) ∙ sym (map-concat _ (g .holes)))
-      ∙ length-map (concat (g .holes)) (λ (c : Corner Vec3). c .at)
+pub points-kept : (S : Setting Vec3) (g : Given Vec3) → length (concat (holes S g)) ≡ length (concat (g .holes))
+points-kept S g =
+    sym (length-map (concat (holes S g)) _) ∙ ap length (map-concat _ (holes S g) ∙ ap concat (holes-are S g) ∙ sym (map-concat _ (g .holes)))
+    ∙ length-map (concat (g .holes)) (λ (c : Corner Vec3). c .at)
 
 -- pieces that leave nothing over, one behind the other, are the list
 concat-pieces : {A B : Type 0} (ls : List (List B)) (w : List A) → length w ≡ length (concat ls) → concat (pieces (map length ls) w) ≡ w

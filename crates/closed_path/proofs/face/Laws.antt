@@ -15,9 +15,10 @@ use Rattle.regions.specs.Outer.{outerOf}
 use Rattle.regions.specs.Closed.{roomFor, closedRegion}
 use Rattle.regions.specs.Rephase.{Arrays, arrays, rephaseHoles}
 use Rattle.bands.specs.Corners.{Corners, us, vs}
+use Rattle.bands.proofs.Lengths.{lengths-each}
 use Rattle.judgement.specs.Paths.{boundsOf, signedArea, outerNumber}
 use Rattle.faces.specs.Held.{concat}
-use Rattle.faces.proofs.Concat.{map-concat, lengths-each}
+use Rattle.faces.proofs.Concat.{map-concat}
 use Rattle.closed_path.specs.Table.{startsOf, areasOf}
 use Rattle.closed_path.specs.First.{partFirst}
 use Rattle.closed_path.specs.Path.{HoldsParameters, RoomEach, startsIn, rephasedArrays}
