@@ -41,35 +41,37 @@ unfolding areasOf
 areas-are [] = refl
 areas-are (l ∷ ls) = ap (λ (k : List _). signedArea l ∷ k) (areas-are ls)
 
-module _ (ls : List (Corners Vec3)) (counts : List ℕ) (u v : List Float) (h : HoldsParameters ls counts u v) (starts₀ : List ℕ) (areas₀ ul uh vl vh : List Float) (room : RoomEach (length ls) starts₀ areas₀ ul uh vl vh) where
-  abbrev Measured : ℕ → List ℕ → List Float → Type 0
-  Measured r starts areas = (r ≡ outerNumber ls) × ((starts ≡ startsIn ls) × (areas ≡ map signedArea ls))
+abbrev Measured : List (Corners Vec3) → ℕ → List ℕ → List Float → Type 0
+Measured ls r starts areas = (r ≡ outerNumber ls) × ((starts ≡ startsIn ls) × (areas ≡ map signedArea ls))
 
-  roomy : (n : ℕ) → n ≡ length ls → roomFor n ul uh vl vh ≡ true
-  roomy n e =
-      let a = room .in-ulo in
-      let b = room .in-uhi in
-      let c = room .in-vlo in
-      let d = room .in-vhi in
-      rw (le-leb n (length ul) (omega arith), le-leb n (length uh) (omega arith), le-leb n (length vl) (omega arith), le-leb n (length vh) (omega arith))
+-- the table of the loops, where a start and an area are lent for each and no more
+module _ (ls : List (Corners Vec3)) (counts : List ℕ) (u v : List Float) (h : HoldsParameters ls counts u v) (starts₀ : List ℕ) (areas₀ : List Float) (in-starts : length starts₀ ≡ length ls) (in-areas : length areas₀ ≡ length ls)
+    (n : ℕ) (starts : List ℕ) (areas : List Float) (all : n ≡ length u) (s : starts ≡ placed 0 (startsOf n counts) starts₀) (a : areas ≡ placed 0 (areasOf (loopsOf starts counts u) (loopsOf starts counts v)) areas₀) where
+  starts-are : starts ≡ startsIn ls
+  starts-are =
+      let points : n ≡ length (concat ls) = all ∙ ap length (h .u-is) ∙ length-map (concat ls) _ in
+      let long : length (startsIn ls) ≡ length starts₀ = length-starts (length (concat ls)) 0 (map length ls) ∙ length-map ls length ∙ sym in-starts in
+      s ∙ (λ i. placed 0 (startsOf (points i) (h .counts-are i)) starts₀) ∙ placed-whole (startsIn ls) starts₀ long
 
-  module _ (n r : ℕ) (starts : List ℕ) (areas : List Float) (all : n ≡ length u) (s : starts ≡ placed 0 (startsOf n counts) starts₀) (a : areas ≡ placed 0 (areasOf (loopsOf starts counts u) (loopsOf starts counts v)) areas₀) (o : r ≡ closedRegion starts counts u v areas ul uh vl vh) where
-    starts-are : starts ≡ startsIn ls
-    starts-are =
-        let points : n ≡ length (concat ls) = all ∙ ap length (h .u-is) ∙ length-map (concat ls) _ in
-        let long : length (startsIn ls) ≡ length starts₀ = length-starts (length (concat ls)) 0 (map length ls) ∙ length-map ls length ∙ sym (room .in-starts) in
-        s ∙ (λ i. placed 0 (startsOf (points i) (h .counts-are i)) starts₀) ∙ placed-whole (startsIn ls) starts₀ long
+  u-loops : loopsOf starts counts u ≡ map us ls
+  u-loops = (λ i. loopsOf (starts-are i) (h .counts-are i) (h .u-is i)) ∙ column-loops _ ls
 
-    u-loops : loopsOf starts counts u ≡ map us ls
-    u-loops = (λ i. loopsOf (starts-are i) (h .counts-are i) (h .u-is i)) ∙ column-loops _ ls
+  v-loops : loopsOf starts counts v ≡ map vs ls
+  v-loops = (λ i. loopsOf (starts-are i) (h .counts-are i) (h .v-is i)) ∙ column-loops _ ls
 
-    v-loops : loopsOf starts counts v ≡ map vs ls
-    v-loops = (λ i. loopsOf (starts-are i) (h .counts-are i) (h .v-is i)) ∙ column-loops _ ls
+  pub areas-found : areas ≡ map signedArea ls
+  areas-found =
+      let long : length (map signedArea ls) ≡ length areas₀ = length-map ls signedArea ∙ sym in-areas in
+      a ∙ (λ i. placed 0 (areasOf (u-loops i) (v-loops i)) areas₀) ∙ ap (λ (k : List Float). placed 0 k areas₀) (areas-are ls) ∙ placed-whole (map signedArea ls) areas₀ long
 
-    areas-found : areas ≡ map signedArea ls
-    areas-found =
-        let long : length (map signedArea ls) ≡ length areas₀ = length-map ls signedArea ∙ sym (room .in-areas) in
-        a ∙ (λ i. placed 0 (areasOf (u-loops i) (v-loops i)) areas₀) ∙ ap (λ (k : List Float). placed 0 k areas₀) (areas-are ls) ∙ placed-whole (map signedArea ls) areas₀ long
+  module _ (ul uh vl vh : List Float) (room : RoomEach (length ls) starts₀ areas₀ ul uh vl vh) (r : ℕ) (o : r ≡ closedRegion starts counts u v areas ul uh vl vh) where
+    roomy : (n : ℕ) → n ≡ length ls → roomFor n ul uh vl vh ≡ true
+    roomy n e =
+        let a = room .in-ulo in
+        let b = room .in-uhi in
+        let c = room .in-vlo in
+        let d = room .in-vhi in
+        rw (le-leb n (length ul) (omega arith), le-leb n (length uh) (omega arith), le-leb n (length vl) (omega arith), le-leb n (length vh) (omega arith))
 
     region-is : closedRegion starts counts u v areas ul uh vl vh ≡ outerNumber ls
     unfolding closedRegion outerNumber
@@ -78,21 +80,21 @@ module _ (ls : List (Corners Vec3)) (counts : List ℕ) (u v : List Float) (h : 
         ap (λ (t : Bool). cond t (outerOf (boxesOf (loopsOf starts counts u) (loopsOf starts counts v)) areas) 0) (roomy (min (length starts) (length counts)) many)
         ∙ (λ i. outerOf (boxesOf (u-loops i) (v-loops i)) (areas-found i)) ∙ ap (λ (k : List _). outerOf k (map signedArea ls)) (boxes-are ls)
 
-    pub measured : Measured r starts areas
+    pub measured : Measured ls r starts areas
     measured = (o ∙ region-is, (starts-are, areas-found))
 
-  module _ (uperiod vperiod : Float) where
-    abbrev Rephased : ℕ → List ℕ → List Float → List Float → List Float → Type 0
-    Rephased r starts u′ v′ areas′ =
-        (r ≡ outerNumber ls) × ((starts ≡ startsIn ls) × ((u′ ≡ rephasedArrays uperiod vperiod ls .us) × ((v′ ≡ rephasedArrays uperiod vperiod ls .vs) × (areas′ ≡ rephasedArrays uperiod vperiod ls .areas))))
+module _ (ls : List (Corners Vec3)) (counts : List ℕ) (u v : List Float) (h : HoldsParameters ls counts u v) (uperiod vperiod : Float) where
+  abbrev Rephased : ℕ → List ℕ → List Float → List Float → List Float → Type 0
+  Rephased r starts u′ v′ areas′ =
+      (r ≡ outerNumber ls) × ((starts ≡ startsIn ls) × ((u′ ≡ rephasedArrays uperiod vperiod ls .us) × ((v′ ≡ rephasedArrays uperiod vperiod ls .vs) × (areas′ ≡ rephasedArrays uperiod vperiod ls .areas))))
 
-    pub holes-moved : (r : ℕ) (starts : List ℕ) (areas u′ v′ areas′ : List Float) → Measured r starts areas
-        → (u′ ≡ rephaseHoles starts counts r uperiod vperiod (arrays u v areas) .us) × ((v′ ≡ rephaseHoles starts counts r uperiod vperiod (arrays u v areas) .vs) × (areas′ ≡ rephaseHoles starts counts r uperiod vperiod (arrays u v areas) .areas))
-        → Rephased r starts u′ v′ areas′
-    unfolding rephasedArrays
-    holes-moved r starts areas u′ v′ areas′ m e =
-        let left : rephaseHoles starts counts r uperiod vperiod (arrays u v areas) ≡ rephasedArrays uperiod vperiod ls = λ i. rephaseHoles (m .1 .0 i) (h .counts-are i) (m .0 i) uperiod vperiod (arrays (h .u-is i) (h .v-is i) (m .1 .1 i)) in
-        (m .0, (m .1 .0, (e .0 ∙ ap (λ (k : Arrays). k .us) left, (e .1 .0 ∙ ap (λ (k : Arrays). k .vs) left, e .1 .1 ∙ ap (λ (k : Arrays). k .areas) left))))
+  pub holes-moved : (r : ℕ) (starts : List ℕ) (areas u′ v′ areas′ : List Float) → Measured ls r starts areas
+      → (u′ ≡ rephaseHoles starts counts r uperiod vperiod (arrays u v areas) .us) × ((v′ ≡ rephaseHoles starts counts r uperiod vperiod (arrays u v areas) .vs) × (areas′ ≡ rephaseHoles starts counts r uperiod vperiod (arrays u v areas) .areas))
+      → Rephased r starts u′ v′ areas′
+  unfolding rephasedArrays
+  holes-moved r starts areas u′ v′ areas′ m e =
+      let left : rephaseHoles starts counts r uperiod vperiod (arrays u v areas) ≡ rephasedArrays uperiod vperiod ls = λ i. rephaseHoles (m .1 .0 i) (h .counts-are i) (m .0 i) uperiod vperiod (arrays (h .u-is i) (h .v-is i) (m .1 .1 i)) in
+      (m .0, (m .1 .0, (e .0 ∙ ap (λ (k : Arrays). k .us) left, (e .1 .0 ∙ ap (λ (k : Arrays). k .vs) left, e .1 .1 ∙ ap (λ (k : Arrays). k .areas) left))))
 
 -- the columns of one loop first, by where it begins and how many points it has
 pub first-columns : (s c s′ c′ : ℕ) (u v x y z du dv dx dy dz ru rv rx ry rz : List Float) → s ≡ s′ → c ≡ c′

@@ -34,7 +34,7 @@ same-length-8 : tie.Need-same-length-8
 same-length-8 c = search needs
 
 returns : tie.Need-returns
-returns c = λ ls h room. holes-moved ls _ _ _ h _ _ _ _ _ _ room _ _ _ _ _ _ _ _ (c .before .before .before .before .before .before .before .before .before .before .before .before .before .before .before .before .before .before .before .before .before .before .before .outer-number .ensures ls h room) (c .before .before .before .before .before .before .rephase-holes .ensures)
+returns c = λ ls h room. holes-moved ls _ _ _ h _ _ _ _ _ _ _ _ (c .before .before .before .before .before .before .before .before .before .before .before .before .before .before .before .before .before .before .before .before .before .before .before .outer-number .ensures ls h room) (c .before .before .before .before .before .before .rephase-holes .ensures)
 
 pub holes-moved-spec : {M : Type 1} → statement M
 holes-moved-spec =

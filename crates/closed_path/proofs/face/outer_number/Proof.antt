@@ -32,7 +32,7 @@ same-length-6 : tie.Need-same-length-6
 same-length-6 c = search needs
 
 returns : tie.Need-returns
-returns c = λ ls h room. measured ls _ _ _ h _ _ _ _ _ _ room _ _ _ _ refl (c .before .before .before .before .before .before .before .before .before .before .before .before .before .before .before .before .before .before .before .before .before .before .starts-of .ensures) (c .before .before .before .before .before .before .before .before .before .before .before .before .before .before .before .before .before .areas-of .ensures) (c .before .before .before .before .before .before .before .before .closed-region .ensures .0)
+returns c = λ ls h room. measured ls _ _ _ h _ _ (room .in-starts) (room .in-areas) _ _ _ refl (c .before .before .before .before .before .before .before .before .before .before .before .before .before .before .before .before .before .before .before .before .before .before .starts-of .ensures) (c .before .before .before .before .before .before .before .before .before .before .before .before .before .before .before .before .before .areas-of .ensures) _ _ _ _ room _ (c .before .before .before .before .before .before .before .before .closed-region .ensures .0)
 
 pub outer-number-spec : {M : Type 1} → statement M
 outer-number-spec =
