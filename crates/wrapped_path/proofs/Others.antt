@@ -1,4 +1,4 @@
--- All elements but two: done to each, and how much they are together. Lists one behind the other.
+-- How much all elements but two are together. Lists one behind the other.
 use Prim.Native.Nat.{ℕ, zero, suc, _+_, _<_}
 use mathlib.Core.Path.{_≡_, refl, ap, _∙_}
 use mathlib.Core.Bool.{Bool, true, false, cond, _||_}
@@ -6,29 +6,13 @@ use mathlib.Core.List.{List, [], _∷_, _++_, map, append-assoc}
 use native.Mathlib.Omega.{arith}
 use borrow.Author.Tests.{eq-eqb, ne-eqb}
 use lib.Dec.{eqb}
-use lib.ListN.{length, getD, length-append, length-map}
+use lib.ListN.{length, getD, length-append}
 use lib.Seq.{take-at, drop-at}
 use Rattle.lists.specs.Pieces.{pieces}
 use Rattle.records.specs.Bytes.{sum}
 use Rattle.faces.specs.Held.{concat}
 use Rattle.holes.specs.Others.{isRing, othersFrom, others}
 use Rattle.holes.proofs.Picking.{others-first}
-
--- ---- done to each
-
-module _ {A B : Type 0} (f : A → B) (a b : ℕ) where
-  mapped-from : (i : ℕ) (xs : List A) → othersFrom a b i (map f xs) ≡ map f (othersFrom a b i xs)
-  unfolding othersFrom
-  mapped-from i [] = refl
-  mapped-from i (x ∷ xs) = by-test (isRing a b i) (mapped-from (suc i) xs)
-    where
-      by-test : (t : Bool) → othersFrom a b (suc i) (map f xs) ≡ map f (othersFrom a b (suc i) xs)
-          → cond t (othersFrom a b (suc i) (map f xs)) (f x ∷ othersFrom a b (suc i) (map f xs)) ≡ map f (cond t (othersFrom a b (suc i) xs) (x ∷ othersFrom a b (suc i) xs))
-      by-test true e = e
-      by-test false e = ap (λ (l : List B). f x ∷ l) e
-
-  pub others-mapped : (xs : List A) → others a b (map f xs) ≡ map f (others a b xs)
-  others-mapped xs = mapped-from 0 xs
 
 -- ---- which are the two
 
@@ -100,10 +84,6 @@ pub total-length : {A : Type 0} (xss : List (List A)) → sum (map length xss) �
 unfolding sum concat
 total-length [] = refl
 total-length (xs ∷ xss) = let n = total-length xss in let m = length-append xs (concat xss) in omega arith
-
-pub each-length : {A B : Type 0} (f : A → B) (xss : List (List A)) → map length (map (map f) xss) ≡ map length xss
-each-length f [] = refl
-each-length f (xs ∷ xss) = λ i. length-map xs f i ∷ each-length f xss i
 
 -- they are told apart by their lengths, whatever lies behind them
 pub pieces-front : {A : Type 0} (xss : List (List A)) (rest : List A) → pieces (map length xss) (concat xss ++ rest) ≡ xss

@@ -15,20 +15,22 @@ use Rattle.bands.specs.Corners.{Corner, Corners, us}
 use Rattle.bands.specs.Columns.{Columns}
 use Rattle.bands.specs.Given.{Given, Loop}
 use Rattle.bands.specs.Strip.{Setting}
+use Rattle.bands.proofs.Lengths.{lengths-each}
 use Rattle.seam.specs.Reseam.{hasRoom}
-use Rattle.records.specs.Bytes.{sum}
 use Rattle.records.specs.Limits.{maxLoops, maxPoints, maxStrip}
 use Rattle.judgement.specs.Face.{loopsIn, givenIn}
 use Rattle.faces.specs.Held.{concat}
+use Rattle.faces.proofs.Concat.{map-concat}
 use Rattle.measuring.proofs.Measured.{pieces-concat}
 use Rattle.measuring.proofs.Judged.{loop-held}
 use Rattle.measuring.proofs.RingsGiven.{first-given, later-given}
 use Rattle.holes.specs.Others.{others}
+use Rattle.holes.proofs.Others.{map-others}
 use Rattle.joining.specs.Lent.{asGiven, Holds, enough}
 use Rattle.wrapped.specs.Region.{Wraps, RegionAs}
 use Rattle.wrapped.specs.declared.Wrapped.{Wrapped}
 use Rattle.wrapped_path.specs.Band.{TwoRings, RoomFor, BetweenAs, BandAs}
-use Rattle.wrapped_path.proofs.Others.{others-mapped, total-length, each-length, pieces-front}
+use Rattle.wrapped_path.proofs.Others.{pieces-front}
 use Rattle.wrapped_path.proofs.TwoRings.{holes-given, holes-many, first-some, later-some, points-parted}
 
 -- ---- the room of the shortest list
@@ -74,7 +76,7 @@ module _ (s : List ℕ) (first later : ℕ) (firstFalls laterFalls : Bool) (ring
 
   -- of a list with one element for each loop, those of the holes
   of-holes : {B : Type 0} (f : Corners Vec3 → B) → others first later (map f (loopsIn s)) ≡ map f hs
-  of-holes f = others-mapped f first later (loopsIn s) ∙ ap (map f) (sym are-others)
+  of-holes f = map-others first later f 0 (loopsIn s) ∙ ap (map f) (sym are-others)
 
   counts-of-holes : others first later counts ≡ map length hs
   counts-of-holes = ap (others first later) counts-are ∙ of-holes length
@@ -100,9 +102,9 @@ module _ (s : List ℕ) (first later : ℕ) (firstFalls laterFalls : Bool) (ring
       → (0 + length (concat (others first later (pieces counts u))) ≤ length hu → d ≡ placed 0 (concat (others first later (pieces counts u))) hu) → pieces (map length hs) d ≡ map us hs
   us-picked u hu d u-is room put =
       let e : concat (others first later (pieces counts u)) ≡ concat (map us hs) = ap concat (us-of-holes u u-is) in
-      let n : length (concat (map us hs)) ≡ length (concat hs) = sym (total-length (map us hs)) ∙ ap sum (each-length (λ (c : Corner Vec3). c .u) hs) ∙ total-length hs in
+      let n : length (concat (map us hs)) ≡ length (concat hs) = sym (ap length (map-concat (λ (c : Corner Vec3). c .u) hs)) ∙ length-map (concat hs) (λ (c : Corner Vec3). c .u) in
       let l = ap length e in
-      (λ i. pieces (sym (each-length (λ (c : Corner Vec3). c .u) hs) i) (put (omega arith) i))
+      (λ i. pieces (sym (lengths-each (λ (c : Corner Vec3). c .u) hs) i) (put (omega arith) i))
       ∙ ap (λ (w : List Float). pieces (map length (map us hs)) (placed 0 w hu)) e
       ∙ ap (pieces (map length (map us hs))) (placed-fits 0 (concat (map us hs)) hu (omega arith))
       ∙ pieces-front (map us hs) _
