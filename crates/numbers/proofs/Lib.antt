@@ -5,3 +5,5 @@ pub mod Signed
 pub mod Monotone
 pub mod Zeros
 pub mod Magnitude
+pub mod Fractions
+pub mod Squares

@@ -1,29 +1,40 @@
--- Bounds of sums, differences, products and quotients of floats, from bounds of the operands.
+-- Bounds of sums, differences, products, quotients and halves of floats, and of the lesser and the greater of two, from bounds of the operands.
 use mathlib.Core.Path.{_≡_, refl, sym, ap, _∙_, subst}
 use mathlib.Core.Logic.{_⊎_, inl, inr}
 use Prim.Native.Nat.{ℕ, zero, suc, _+_, _-_, _*_, _^_, _≤_, _<_}
 use native.Mathlib.Nat.{le-trans, le-of-eq, le-of-lt, lt-of-lt-of-le, lt-of-le-of-lt, not-le-of-lt, add-le-add, mul-comm, mul-assoc, mul-left-comm, mul-right-comm, mul-one, one-mul, mul-pos, mul-mul-mul-comm, mul-le-mul, mul-le-mul-right, le-of-mul-le-mul-right, mul-lt-mul-of-pos-right, add-mul, zero-lt-suc}
 use native.Mathlib.Omega.{arith}
 use mathlib.Core.Bool.{Bool, true, false, _&&_, _||_, cond, Bool·beq, true≢false, false≢true}
-use lib.IntN.{ℤ, pos}
+use lib.IntN.{ℤ, pos, negsuc}
 use lib.Dec.{T, ltb, eqb, ltb→lt, eqb→eq, lit<, lit≤}
 use lib.Pow.{pow-add, pow-pos, pow-lt, pow-mono}
-use lib.Ieee.{Float, nan, inf, fin, binary64, up, down, round, units, odd, add, sub, mul, div, neg, lt, le, unlike, sum, ofInt}
+use lib.Ieee.{Float, nan, inf, fin, binary64, up, down, round, units, odd, add, sub, mul, div, neg, lt, le, unlike, sum, ofBits}
 use lib.Ieee.Fits.{up-pos, down-pos}
 use lib.Ieee.Exact.{HasValue, round-exact}
 use lib.Ieee.Order.{round-mono, kept, drop}
 use lib.Ieee.Scale.{finite}
-use lib.Ieee.Back.{round-whole}
 use borrow.Author.Tests.{ltb-false}
 use Rattle.numbers.proofs.Reals.{round-neg}
+use Rattle.numbers.specs.Constants.{plusZero, half}
+use Rattle.numbers.specs.Order.{minOf, maxOf}
+use Rattle.numbers.specs.Rounded.{_⊗_}
 use Rattle.numbers.specs.Within.{Within, Held, Beyond}
 
--- ---- which bounds are held: below 2 ^ 53, and powers of two
+-- ---- which bounds are held: below 2 ^ 53, powers of two, and what is below 2 ^ 53 times a power of two
 pub held-small : (B : ℕ) → B < 2 ^ 53 → Held B
 held-small B h = record { q = B; j = 0; short = h; is = mul-one B; under = lt-of-lt-of-le h (lit≤ tt) }
 
 pub held-pow : (k : ℕ) → k < 1024 → Held (2 ^ k)
 held-pow k h = record { q = 1; j = k; short = lit< tt; is = one-mul (2 ^ k); under = pow-lt h }
+
+pub held-times : (q j : ℕ) → q < 2 ^ 53 → j ≤ 900 → Held (q * 2 ^ j)
+held-times q j h l = record {
+  q = q;
+  j = j;
+  short = h;
+  is = refl;
+  under = lt-of-lt-of-le (mul-lt-mul-of-pos-right h (pow-pos j)) (le-trans (le-of-eq (sym (pow-add 2 53 j))) (le-of-lt (pow-lt {i = 53 + j} {j = 1024} (omega arith))));
+}
 
 pub held-value : (B : ℕ) → Held B → HasValue (round binary64 false B 1) false B 1
 held-value B h =
@@ -183,21 +194,8 @@ sub-pow k x y h v w = add-pow k x (neg y) h v (neg-within (2 ^ k) y w)
 pub mul-pow : (j k : ℕ) (x y : Float) → j + k < 1024 → Within (2 ^ j) x → Within (2 ^ k) y → Within (2 ^ (j + k)) (mul binary64 x y)
 mul-pow j k x y h v w = subst (λ (z : ℕ). Within z (mul binary64 x y)) (sym (pow-add 2 j k)) (mul-within (2 ^ j) (2 ^ k) x y (subst Held (pow-add 2 j k) (held-pow (j + k) h)) v w)
 
-pub div-pow : (k : ℕ) (x y : Float) → k < 1024 → Within (2 ^ k) x → Beyond 1 y → Within (2 ^ k) (div binary64 x y)
-div-pow k x y h v w = subst (λ (z : ℕ). Within z (div binary64 x y)) (mul-one (2 ^ k)) (div-within (2 ^ k) 1 x y (subst Held (sym (mul-one (2 ^ k))) (held-pow k h)) v w)
-
 pub pow-more : (j k : ℕ) (x : Float) → j ≤ k → Within (2 ^ j) x → Within (2 ^ k) x
 pow-more j k x h w = within-more (2 ^ j) (2 ^ k) x (pow-mono h) w
-
--- a whole number as a float is at least 1 in size
-pub whole-beyond : (n : ℕ) → 0 < n → n ≤ 2 ^ 53 → Beyond 1 (ofInt binary64 (pos n))
-unfolding ofInt
-whole-beyond n p h = go (round binary64 false n 1) (round-whole binary64 false n h)
-  where
-    go : (x : Float) → HasValue x false n 1 → Beyond 1 x
-    go nan v = v
-    go (inf s) v = v
-    go (fin s m e) v = le-trans (native.Mathlib.Nat.le-mul-of-pos-right (down e) p) (le-of-eq (mul-comm (down e) n ∙ sym (v .1) ∙ mul-one (m * up e) ∙ sym (one-mul (m * up e))))
 
 -- tests `x <= K` and `-K <= x`, which no NaN passes
 pub within-tests : (K : ℕ) (c : Float) (x : Float) → HasValue c false K 1 → le x c ≡ true → le (neg c) x ≡ true → Within K x
@@ -218,3 +216,37 @@ within-tests K (fin false n d) (fin true m e) v p q = le-size m e (fin false n d
         go true q h t = tt
         go false true h t = subst (λ (z : ℕ). T (eqb b z && true)) (sym (h tt)) (lib.Ieee.Fits.and-i (eqb b b) true (lib.Dec.eqb-refl b) tt)
         go false false h t = absurd t
+
+-- ---- one of two
+
+module _ (B : ℕ) (x y : Float) (p : Within B x) (q : Within B y) where
+  pub pick-within : (t : Bool) → Within B (cond t x y)
+  pick-within true = p
+  pick-within false = q
+
+pub min-within : (B : ℕ) (x y : Float) → Within B x → Within B y → Within B (minOf x y)
+min-within B x y p q = pick-within B y x q p (lt y x)
+
+pub max-within : (B : ℕ) (x y : Float) → Within B x → Within B y → Within B (maxOf x y)
+max-within B x y p q = pick-within B y x q p (lt x y)
+
+-- ---- half of a real
+
+half-is : half ≡ fin false 1 (negsuc 0)
+unfolding ofBits
+half-is = refl
+
+pub half-within : (B : ℕ) (x : Float) → Held B → Within (B + B) x → Within B (x ⊗ half)
+half-within B x h w = subst (λ (z : Float). Within B (x ⊗ z)) (sym half-is) (go x w)
+  where
+    room : (B a d : ℕ) → a ≤ (B + B) * d → a * (1 * 1) ≤ B * (d * 2)
+    room B a d h = omega arith
+
+    go : (x : Float) → Within (B + B) x → Within B (x ⊗ fin false 1 (negsuc 0))
+    go nan w = absurd w
+    go (inf s) w = absurd w
+    go (fin s m e) w = unfold mul in round-within B (unlike s false) (m * up e * (1 * 1)) (down e * 2) h (mul-pos (down-pos e) (lit< tt)) (room B (m * up e) (down e) w)
+
+pub zero-within : (B : ℕ) → Within B plusZero
+unfolding ofBits
+zero-within B = Prim.Native.Nat.zero-le
