@@ -1,2 +1,5 @@
 pub mod Laws
 pub mod Exact
+pub mod Terms
+pub mod Cosine
+pub mod Sine
