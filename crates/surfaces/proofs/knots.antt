@@ -4,3 +4,4 @@ pub mod Inner
 pub mod Kept
 pub mod Rising
 pub mod Rungs
+pub mod Between
