@@ -4,6 +4,7 @@ pub mod Counting
 pub mod Refused
 pub mod Rows
 pub mod Ranges
+pub mod Bounds
 pub mod Reals
 pub mod Accepted
 pub mod Prefix
