@@ -21,7 +21,7 @@ use Rattle.closed_path.specs.First.{partFirst}
 use Rattle.closed_path.specs.Path.{HoldsParameters, Room, startsIn, rephasedArrays}
 use Rattle.closed_path.proofs.first.Laws.{length-first}
 use Rattle.closed_path.proofs.Holes.{usOf, vsOf, areasIn, flat, given, movedFrom, length-moved, moved-us, moved-vs, us-flat, vs-flat, holes-are, start-outer, count-outer}
-use Rattle.closed_path.proofs.Outermost.{outer-below}
+use Rattle.judgement.proofs.Outermost.{outer-below}
 use Rattle.closed_path.proofs.Answers.{answers}
 
 -- the parameters alone

@@ -8,3 +8,4 @@ pub mod Demands
 pub mod Plain
 pub mod Strips
 pub mod Places
+pub mod Outermost

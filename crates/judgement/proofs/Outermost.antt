@@ -12,26 +12,22 @@ use Rattle.numbers.specs.declared.math.Vec3.{Vec3}
 use Rattle.records.specs.Result.{All, none, and}
 use Rattle.regions.specs.Outer.{passing, theOne, enclosingOne, enclosesOthers, slackOf, lastLargest, outerOf}
 use Rattle.bands.specs.Corners.{Corners}
 use Rattle.judgement.specs.Paths.{boundsOf, signedArea, outerNumber}
+use Rattle.judgement.proofs.Each.{all-append, all-so}
 
 abbrev Below : ℕ → ℕ → Type 0
 Below n i = i < n
 
-all-append : {A : Type 0} {P : A → Type 0} (xs : List A) (y : A) → All P xs → P y → All P (xs ++ (y ∷ []))
-all-append [] y a p = and p none
-all-append (x ∷ xs) y (and q a) p = and q (all-append xs y a p)
-
-all-higher : (m n : ℕ) (is : List ℕ) → m ≤ n → All (Below m) is → All (Below n) is
-all-higher m n [] h a = none
-all-higher m n (i ∷ is) h (and p a) = let q : i < n = omega arith in and q (all-higher m n is h a)
+all-higher : (m n : ℕ) {is : List ℕ} → m ≤ n → All (Below m) is → All (Below n) is
+all-higher m n h a = all-so (λ i p. omega arith) a
 
 passing-below : (test : ℕ → Bool) (n : ℕ) → All (Below n) (passing test n)
 unfolding passing
 passing-below test zero = none
-passing-below test (suc n) = by-test (test n) (all-higher n (suc n) (passing test n) (omega arith) (passing-below test n))
+passing-below test (suc n) = by-test (test n) (all-higher n (suc n) (omega arith) (passing-below test n))
   where
     by-test : (t : Bool) → All (Below (suc n)) (passing test n) → All (Below (suc n)) (passing test n ++ cond t (n ∷ []) [])
-    by-test true earlier = let last : n < suc n = omega arith in all-append (passing test n) n earlier last
+    by-test true earlier = let last : n < suc n = omega arith in all-append earlier (and last none)
     by-test false earlier = rw (append-nil (passing test n)) earlier
 
 one-below : (is : List ℕ) (otherwise n : ℕ) → All (Below n) is → otherwise < n → theOne is otherwise < n
@@ -64,4 +60,4 @@ outer-below (l ∷ ls) h =
     let many : length boxes ≡ length (l ∷ ls) = length-map (l ∷ ls) boundsOf in
     let largest : lastLargest areas (length areas) < length (l ∷ ls) = rw (length-map (l ∷ ls) signedArea) (largest-below areas (length ls)) in
     let passed = passing-below (enclosesOthers (slackOf boxes) boxes) (length boxes) in
-    one-below (passing (enclosesOthers (slackOf boxes) boxes) (length boxes)) (lastLargest areas (length areas)) (length (l ∷ ls)) (all-higher (length boxes) (length (l ∷ ls)) (passing (enclosesOthers (slackOf boxes) boxes) (length boxes)) (omega arith) passed) largest
+    one-below (passing (enclosesOthers (slackOf boxes) boxes) (length boxes)) (lastLargest areas (length areas)) (length (l ∷ ls)) (all-higher (length boxes) (length (l ∷ ls)) (omega arith) passed) largest
