@@ -68,7 +68,7 @@ module _ (s : List ℕ) (not-9 : oneRing s ≡ nowhere) (not-10 : manyRings s �
   two-wrap some = let a = few-wrap in let b = not-one in omega arith
 
 module _ (lent : ℕ) (s : List ℕ) (none : NoneHolds (allConditions lent) s) where
-  strip-short : (wrapping s ≡ 0 → ⊥) → stripPoints s ≤ maxStrip
+  pub strip-short : (wrapping s ≡ 0 → ⊥) → stripPoints s ≤ maxStrip
   unfolding longStrip
   strip-short some =
       ltb-false maxStrip (stripPoints s) (ap (λ (t : Bool). t && (maxStrip <? stripPoints s)) (sym (eq-eqb (wrapping s) 2 (two-wrap s (none 9) (none 10) some))) ∙ when-fails _ (stripPoints s) .0 (none 12))
@@ -100,7 +100,7 @@ module _ (lent : ℕ) (s : List ℕ) (none : NoneHolds (allConditions lent) s) w
     ring-meets : (k : ℕ) → k < 2 → endsMeet same (positions (getD rings k bare .corners)) ≡ true
     ring-meets k h = let n = rings-long in all-in (all-reverse (all-only isWrapping (λ m e f. f e) loops-meet)) k bare (omega arith)
 
-    rings-whole : Whole (settingIn s) (givenIn s)
+    pub rings-whole : Whole (settingIn s) (givenIn s)
     unfolding settingIn givenIn givenOf
     rings-whole = record {
       some-first = ring-some 0 (omega arith);
@@ -112,13 +112,13 @@ module _ (lent : ℕ) (s : List ℕ) (none : NoneHolds (allConditions lent) s) w
 -- ---- the call
 
 module _ (lent : ℕ) (s b : List ℕ) (h : judge lent s ≡ closed b) where
-  passed : NoneHolds (allConditions lent) s
+  pub passed : NoneHolds (allConditions lent) s
   passed = closed-exactly laterConditions result lent s b .0 h .0
 
   fine : Fine (resultLoops s)
   fine = let a = closed-accepted laterConditions resultIn lent s b h in result-fine s (a .loops-are) (a .total) (strip-short lent s passed)
 
-  can-be-written : Writable (resultIn s)
+  pub can-be-written : Writable (resultIn s)
   can-be-written = let a = closed-accepted laterConditions resultIn lent s b h in result-writable s (a .loops-are) (a .total) (strip-short lent s passed)
 
   few-loops : length (resultIn s .counts) ≤ maxLoops + 1

@@ -93,23 +93,31 @@ module _ {A : Type 0} {P : A → Type 0} where
   unfolding unlessZero
   all-unlessZero step f to h = all-if (ne step plusZero) (all-map f to h) h
 
-  module _ (again : A → A) (to : (a : A) → P a → P (again a)) where
-    pub all-begun : (k : ℕ) {xs : List A} → All P xs → All P (begun again k xs)
+  -- Q holds of what stays and of what comes round
+  module _ {Q : A → Type 0} (again : A → A) (stays : (a : A) → P a → Q a) (comes : (a : A) → P a → Q (again a)) where
+    pub all-begun : (k : ℕ) {xs : List A} → All P xs → All Q (begun again k xs)
     unfolding begun
-    all-begun k h = all-append (all-drop k h) (all-map again to (all-take k h))
+    all-begun k h = all-append (all-so stays (all-drop k h)) (all-map again comes (all-take k h))
 
-    all-closed : {xs : List A} → All P xs → All P (closed again xs)
+    pub all-closed : {xs : List A} → All P xs → All Q (closed again xs)
     unfolding closed
     all-closed none = none
-    all-closed (and {a} h hs) = all-append (and h hs) (and (to a h) none)
+    all-closed (and {a} h hs) = all-append (and (stays a h) (all-so stays hs)) (and (comes a h) none)
+
+  module _ (again : A → A) (to : (a : A) → P a → P (again a)) where
+    same-begun : (k : ℕ) {xs : List A} → All P xs → All P (begun again k xs)
+    same-begun k h = all-begun again (λ a p. p) to k h
+
+    same-closed : {xs : List A} → All P xs → All P (closed again xs)
+    same-closed h = all-closed again (λ a p. p) to h
 
     pub all-beginRingAt : (k : ℕ) (xs : List A) → All P xs → All P (beginRingAt again k xs)
     unfolding beginRingAt turned
-    all-beginRingAt k xs h = all-if (eqb k 0 || ltb (length xs) 4) h (all-closed (all-begun k (all-dropLast xs h)))
+    all-beginRingAt k xs h = all-if (eqb k 0 || ltb (length xs) 4) h (same-closed (same-begun k (all-dropLast xs h)))
 
     pub all-alignAt : (put : A → A) → ((a : A) → P a → P (put a)) → (k : ℕ) (xs : List A) → All P xs → All P (alignAt again put k xs)
     unfolding alignAt turnedOnto
-    all-alignAt put onto k xs h = all-if (ltb (length xs) 3) h (all-closed (all-map put onto (all-begun k (all-dropLast xs h))))
+    all-alignAt put onto k xs h = all-if (ltb (length xs) 3) h (same-closed (all-map put onto (same-begun k (all-dropLast xs h))))
 
 -- ---- repeats dropped
 

@@ -61,7 +61,7 @@ module _ {A : Type 0} {P : Corner A → Type 0} (moved : (f : Float → Float) �
 
     recut-each : (cut : Float) (r : Corners A) → All P r → All P (recut period cut r)
     unfolding recut
-    recut-each cut r h = all-begun (raised period) (up period) (firstPast cut (us r)) h
+    recut-each cut r h = all-begun (raised period) (λ c p. p) (up period) (firstPast cut (us r)) h
 
     on-strip-each : (f : Face A) → EachFace P f → EachFace P (onStrip period f)
     unfolding onStrip

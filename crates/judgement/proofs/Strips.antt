@@ -1,22 +1,19 @@
 -- How many points a strip can have before refusal 12 is asked for: at most 285,024.
 use Prim.Native.Nat.{ℕ, _+_, _*_, _≤_, _<_, max}
-use mathlib.Core.Path.{_≡_, refl, sym, ap, _∙_, subst}
+use mathlib.Core.Path.{_≡_, refl, sym, ap, _∙_}
 use mathlib.Core.Bool.{Bool, true, false, cond, not, _&&_}
 use mathlib.Core.List.{List, [], _∷_, reverse}
 use native.Mathlib.Omega.{arith}
 use borrow.Author.Tests.{eqb-false, leb-true, leb-false, lt-leb}
-use lib.Dec.{lit≤}
 use lib.IntN.{pos}
 use lib.ListN.{length, getD, length-append, length-map, length-reverse}
-use lib.Ieee.{Float, binary64, lt, le, neg, ofBits}
-use lib.Ieee.Back.{round-whole}
-use lib.Ieee.Exact.{HasValue}
+use lib.Ieee.{Float, lt, le}
 use Rattle.numbers.specs.Constants.{TAU}
 use Rattle.numbers.specs.Order.{minOf, maxOf}
 use Rattle.numbers.specs.Rounded.{_⊕_}
 use Rattle.numbers.specs.Within.{Within}
-use Rattle.numbers.proofs.Equality.{and-left, and-right}
-use Rattle.numbers.proofs.Magnitude.{held-small, within-tests, within-more, add-within, sub-within}
+use Rattle.numbers.proofs.Fractions.{turn-within}
+use Rattle.numbers.proofs.Magnitude.{held-small, within-more, add-within, sub-within, min-within, max-within}
 use Rattle.numbers.specs.declared.math.Vec3.{Vec3}
 use Rattle.surfaces.specs.declared.options.Resolved.{Resolved}
 use Rattle.surfaces.specs.declared.surface.Surface.{Surface}
@@ -35,10 +32,10 @@ use Rattle.records.specs.Bytes.{_≤?_, _=?_}
 use Rattle.records.specs.Face.{kind, counts, points, realOf}
 use Rattle.records.specs.Accepted.{Accepted}
 use Rattle.records.specs.Lent.{vOf}
-use Rattle.records.specs.Limits.{64·0, 10^6, cone, finite, holds, upTo, vRange}
+use Rattle.records.specs.Limits.{64·0, 10^6, cone, holds, upTo, vRange}
 use Rattle.records.specs.Result.{All, none, and}
-use Rattle.records.specs.Values.{bounds}
 use Rattle.records.proofs.Accepted.{parameters-in-range}
+use Rattle.records.proofs.Bounds.{within-64}
 use Rattle.judgement.specs.Face.{surfaceOf, surfaceIn, optionsIn, cornersFrom, cornersIn, loopsIn, measuredIn, isWrapping, settingIn, givenIn}
 use Rattle.judgement.specs.Later.{stripPoints}
 use Rattle.judgement.proofs.Each.{all-first, all-rest, all-getD, all-reverse, all-map, all-only}
@@ -59,18 +56,6 @@ straight k a b lo hi o h = go (k =? 0) (k =? 1) (k =? 2) refl refl refl
     go false false true e f g = refl
     go false false false e f g = let x = eqb-false k 0 e in let y = eqb-false k 1 f in let z = eqb-false k 2 g in absurd (omega arith)
 
--- v of size up to 64
-within-64 : (x : Float) → holds (upTo 64·0) x ≡ true → Within 64 x
-unfolding holds
-within-64 x h =
-    let between = and-right (finite x) (le (neg 64·0) x && le x 64·0) h in
-    within-tests 64 64·0 x (subst (λ (c : Float). HasValue c false 64 1) (bounds .is-64·0) (round-whole binary64 false 64 (omega arith)))
-    (and-right (le (neg 64·0) x) (le x 64·0) between) (and-left (le (neg 64·0) x) (le x 64·0) between)
-
-turn-within : Within 7 TAU
-unfolding ofBits
-turn-within = lit≤ tt
-
 lift-within : (s : Surface) (withL withU : Bool) (meanL meanU v : Float) → Within 64 v → Within 71 (lift (vPeriod s) withL withU meanL meanU v)
 unfolding lift vPeriod
 lift-within Plane withL withU meanL meanU v h = within-more 64 71 v (omega arith) h
@@ -82,20 +67,6 @@ lift-within (Torus R r) withL withU meanL meanU v h = pick (withL && (not withU 
     pick : (t : Bool) → Within 71 (cond t (v ⊕ TAU) v)
     pick true = add-within 64 7 v TAU (held-small 71 (omega arith)) h turn-within
     pick false = within-more 64 71 v (omega arith) h
-
-min-within : (B : ℕ) (x y : Float) → Within B x → Within B y → Within B (minOf x y)
-min-within B x y h k = go (lt y x)
-  where
-    go : (t : Bool) → Within B (cond t y x)
-    go true = k
-    go false = h
-
-max-within : (B : ℕ) (x y : Float) → Within B x → Within B y → Within B (maxOf x y)
-max-within B x y h k = go (lt x y)
-  where
-    go : (t : Bool) → Within B (cond t y x)
-    go true = k
-    go false = h
 
 -- two v of size up to 71 are at most 142,000 steps apart
 arc : (s : Surface) (x y : Float) (o : Resolved) → o .«min_edge_segments» ≤ 64 → Within 71 x → Within 71 y → vStepsOf s (minOf x y) (maxOf x y) o ≤ 142000
@@ -125,10 +96,10 @@ strip-few S n (l ∷ lower) (u ∷ upper) p q few =
 
 module _ (s : List ℕ) (a : Accepted s) where
   -- the v of a sphere and a torus have a size up to 64
-  abbrev Low : Float → Type 0
+  abbrev pub Low : Float → Type 0
   Low v = cone < kind s → Within 64 v
 
-  abbrev High : Float → Type 0
+  abbrev pub High : Float → Type 0
   High v = cone < kind s → Within 71 v
 
   low-v : (v : Float) → holds (vRange (kind s)) v ≡ true → Low v
@@ -146,7 +117,7 @@ module _ (s : List ℕ) (a : Accepted s) where
   unfolding loopsIn cornersIn
   loops-low = all-pieces (counts s) (corners-low _ _ _ (all-map vOf (λ p h. low-v (p .v) (h .v)) (parameters-in-range s a)))
 
-  steps-few : (x y : Float) → High x → High y → vStepsOf (surfaceIn s) (minOf x y) (maxOf x y) (optionsIn s) ≤ 142000
+  pub steps-few : (x y : Float) → High x → High y → vStepsOf (surfaceIn s) (minOf x y) (maxOf x y) (optionsIn s) ≤ 142000
   unfolding surfaceIn optionsIn
   steps-few x y h k = go (kind s ≤? cone) refl
     where
@@ -179,10 +150,10 @@ module _ (s : List ℕ) (a : Accepted s) where
   abbrev S : Setting Vec3
   S = settingIn s
 
-  lower-low : All (λ (c : Corner Vec3). Low (c .v)) (lowerRing S (givenIn s))
+  pub lower-low : All (λ (c : Corner Vec3). Low (c .v)) (lowerRing S (givenIn s))
   lower-low = lower-each (λ f to c h. h) S (givenIn s) (given-each s _ loops-low)
 
-  upper-high : All (λ (c : Corner Vec3). High (c .v)) (upperRing S (givenIn s))
+  pub upper-high : All (λ (c : Corner Vec3). High (c .v)) (upperRing S (givenIn s))
   unfolding upperRing settingIn
   upper-high =
       all-map _ (λ c h past. lift-within (surfaceIn s) _ _ _ _ (c .v) (h past))
