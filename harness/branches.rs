@@ -13,7 +13,7 @@ macro_rules! branches {
 
         $(pub const $group: &[Branch] = &[$(Branch::$name),*];)*
 
-        const NUMBER: usize = [$($(Branch::$name),*),*].len();
+        pub const NUMBER: usize = [$($(Branch::$name),*),*].len();
     };
 }
 
@@ -45,7 +45,7 @@ LIMITS:
 }
 
 /// On so many faces each branch must be met: on one alone it may be by accident.
-const LEAST: u64 = 20;
+pub const LEAST: u64 = 20;
 
 type Counts = [AtomicU64; NUMBER];
 
@@ -95,18 +95,20 @@ pub fn forget() {
     }
 }
 
-/// Ends a face or a record: notes what its counts say together, and adds them up.
-pub fn face_done() {
+/// Ends a face or a record: notes what its counts say together, adds them up, and tells which
+/// branches were met on it.
+pub fn face_done() -> [bool; NUMBER] {
     let here = |branch: Branch| HERE[branch as usize].load(Ordering::Relaxed);
     noted(Branch::OneRingRecut, here(Branch::RingRecut) == 1);
     noted(Branch::BothRingsRecut, here(Branch::RingRecut) == 2);
     noted(Branch::NoStartForward, here(Branch::NoStart) > here(Branch::NoStartBackward));
     noted(Branch::TorusSwappedNotLifted, here(Branch::TorusSwapped) > here(Branch::TorusLifted));
-    for i in 0..NUMBER {
+    std::array::from_fn(|i| {
         let times = HERE[i].swap(0, Ordering::Relaxed);
         TIMES[i].fetch_add(times, Ordering::Relaxed);
         FACES[i].fetch_add(u64::from(times > 0), Ordering::Relaxed);
-    }
+        times > 0
+    })
 }
 
 /// Prints the counts. False where one of the branches was met on too few faces.

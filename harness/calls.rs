@@ -10,6 +10,7 @@ use crate::random::Random;
 use crate::shapes::{KINDS, Kind, shape};
 
 /// What a call is given: so many result bytes, and a record.
+#[derive(Clone)]
 pub struct Call {
     pub lent: usize,
     pub record: Vec<u8>,
@@ -19,14 +20,15 @@ pub fn call(random: &mut Random) -> Call {
     let lent = if random.one_in(64) {
         random.choose(&[0, 134, LENT - 1])
     } else {
-        LENT + random.choose(&[0, 0, 0, 1, 5000])
+        LENT + random.choose(&[0, 0, 0, 1, 3_922])
     };
     let mut face = face(random);
     if random.one_in(4) {
         change_loops(random, &mut face);
     }
     let mut record = face_record(&face);
-    if random.one_in(2) {
+    // Some records have several things wrong: the first in the order of checks is to be told.
+    for _ in 0..random.choose(&[0, 0, 0, 1, 1, 2]) {
         damage(random, &mut record);
     }
     Call { lent, record }
@@ -108,30 +110,38 @@ fn change_loops(random: &mut Random, face: &mut Face) {
 
 /// One thing that a record may have wrong, or have at its limit.
 fn damage(random: &mut Random, record: &mut Vec<u8>) {
-    let loops = usize::from(record[2]);
-    match random.below(8) {
+    let loops = usize::from(record.get(2).copied().unwrap_or(0));
+    let length = record.len();
+    match random.below(9) {
         0 => record.truncate(random.below(6) as usize),
         1 => record.truncate(5 + random.below(2 * loops as u64 + 2) as usize),
-        2 => record.truncate(record.len() - random.choose(&[1, 2, 8])),
-        3 => record.resize(record.len() + random.choose(&[1, 8, 20_622]), 0),
+        2 => record.truncate(length.saturating_sub(random.choose(&[1, 2, 8]))),
+        3 => record.resize(length + random.choose(&[1, 8, 20_622]), 0),
         4 => {
-            let at = random.below(5) as usize;
-            record[at] = random.choose(&[0, 1, 2, 3, 4, 5, 16, 17, 64, 65, 255]);
+            let byte = random.choose(&[0, 1, 2, 3, 4, 5, 16, 17, 64, 65, 255]);
+            put(record, random.below(5) as usize, &[byte]);
         }
         5 if loops > 0 => {
-            let at = 5 + 2 * random.below(loops as u64) as usize;
             let count: u16 = random.choose(&[0, 2, 3, 510, 512, 513, 65_535]);
-            record[at..at + 2].copy_from_slice(&count.to_le_bytes());
+            put(record, 5 + 2 * random.below(loops as u64) as usize, &count.to_le_bytes());
+        }
+        6 => {
+            let byte = random.bits() as u8;
+            put(record, random.below(length as u64) as usize, &[byte]);
         }
         _ => {
-            let reals = (record.len() - 5 - 2 * loops) / 8;
-            let index = match random.below(2) {
-                0 => random.below(13),
-                _ => random.below(reals as u64),
-            };
-            let at = 5 + 2 * loops + 8 * index as usize;
-            record[at..at + 8].copy_from_slice(&limit(random).to_le_bytes());
+            let reals = length.saturating_sub(5 + 2 * loops) / 8;
+            let most = random.choose(&[13, reals as u64]);
+            let index = random.below(most) as usize;
+            put(record, 5 + 2 * loops + 8 * index, &limit(random).to_le_bytes());
         }
+    }
+}
+
+/// Bytes of a record, where it has them.
+pub fn put(record: &mut [u8], at: usize, bytes: &[u8]) {
+    if let Some(place) = record.get_mut(at..at + bytes.len()) {
+        place.copy_from_slice(bytes);
     }
 }
 

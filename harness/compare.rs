@@ -1,13 +1,17 @@
 //! Compares the Rattle crates with the Rust that they were ported from, on the same inputs and
-//! bit for bit.
+//! bit for bit. Whole calls are compared where it is built with `--cfg closer`.
 //!
 //!     compare [--seed N] [--times N] [--only LAYER]
 
 mod bands;
 mod branches;
 mod calls;
+#[cfg(closer)]
+mod closer;
 mod compared;
 mod compared_bands;
+#[cfg(closer)]
+mod edges;
 mod faces;
 mod generator;
 mod items;
@@ -25,6 +29,8 @@ mod shapes;
 mod surfaces;
 mod values;
 mod whole;
+#[cfg(closer)]
+mod whole_calls;
 
 /// The Rust, cut out of its source by `cut.rs`.
 #[allow(dead_code, unused)]
@@ -44,6 +50,8 @@ const LAYERS: &[(&str, fn(&Run))] = &[
     ("records", records::compare),
     ("results", results::compare),
     ("generator", generator::meet_everything),
+    #[cfg(closer)]
+    ("calls", whole_calls::compare),
 ];
 
 fn main() {

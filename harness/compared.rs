@@ -1,6 +1,9 @@
 //! The Rattle crate `compared`, linked as a static library. Nothing checks these declarations
 //! against `crates/compared/src`: they must say the same.
 
+use crate::original::Frame;
+use crate::shapes::Shape;
+
 #[repr(C)]
 #[derive(Clone, Copy)]
 pub struct Point {
@@ -60,6 +63,25 @@ pub struct Tolerances {
     pub sag: f64,
     pub angle: f64,
     pub segments: usize,
+}
+
+impl Shape {
+    pub fn tolerances(&self) -> Tolerances {
+        Tolerances { sag: self.sag, angle: self.angle, segments: self.segments as usize }
+    }
+
+    /// The kind and its sizes for the Rattle crate.
+    pub fn numbered(&self) -> Surface {
+        Surface { kind: self.kind as u32, sizes: self.sizes }
+    }
+
+    /// The frame for the Rattle crate.
+    pub fn placed(&self) -> Placement {
+        let Frame { origin, axis, ref_dir } = self.frame();
+        let [origin, axis, reference] =
+            [origin, axis, ref_dir].map(|p| Point { x: p.x, y: p.y, z: p.z });
+        Placement { origin, axis, reference }
+    }
 }
 
 // Those marked `safe` take and give numbers alone, and no function has a precondition.

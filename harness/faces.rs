@@ -272,7 +272,7 @@ fn some_minus_zeros(random: &mut Random, uv: &mut [Vec2]) {
 
 /// Loops that do not wrap: in the strip, across its ends, or all over it.
 fn band_holes(random: &mut Random, start: f64) -> Vec<Loop> {
-    if random.one_in(16) {
+    if random.one_in(8) {
         // Nearly all of the strip, and its end: a cut past the points of a ring that falls short.
         let most = band_hole(random, start + 0.41 * TURN, 0.41 * TURN);
         return vec![most, band_hole(random, start + TURN, 0.04 * TURN)];

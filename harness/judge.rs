@@ -1,10 +1,10 @@
 //! The face record and the result record of document 01, and its refusals in their order: what
 //! the whole call must answer, worked out by the cut Rust.
 
-use crate::branches::{Branch, noted, strip_points};
+use crate::branches::{Branch, note_zeros, noted, strip_points};
 use crate::faces::{Face, Loop};
 use crate::original::{UvLoop, Vec2, Vec3};
-use crate::reference::{Path, close, loops_of};
+use crate::reference::{Path, close_loops, loops_of};
 use crate::shapes::{KINDS, Kind, Shape};
 
 /// The least number of result bytes to be lent.
@@ -92,8 +92,10 @@ fn closed(lent: usize, record: &[u8]) -> Result<Vec<u8>, Answer> {
         refused(1, LENT)?;
     }
     let face = check(record)?;
-    which_wrap(&face)?;
-    let closing = close(&face).expect("a face that no earlier condition refuses is closed");
+    let loops = loops_of(&face);
+    which_wrap(&face, &loops)?;
+    let closing =
+        close_loops(&face, loops).expect("a face that no earlier condition refuses is closed");
     if closing.path == Path::Wrapped {
         noted(Branch::StripAt1024, strip_points() == 1024);
         noted(Branch::StripAt1025, strip_points() == 1025);
@@ -101,6 +103,7 @@ fn closed(lent: usize, record: &[u8]) -> Result<Vec<u8>, Answer> {
             refused(12, strip_points())?;
         }
     }
+    note_zeros(&closing);
     let loops: Vec<&UvLoop> = std::iter::once(&closing.outer).chain(&closing.holes).collect();
     Ok(result_record(closing.path, &loops))
 }
@@ -210,8 +213,7 @@ fn face(record: &[u8], counts: &[usize], reals: &[f64]) -> Face {
 }
 
 /// Refusals 8 to 11.
-fn which_wrap(face: &Face) -> Result<(), Answer> {
-    let loops = loops_of(face);
+fn which_wrap(face: &Face, loops: &[UvLoop]) -> Result<(), Answer> {
     let wrapping: Vec<usize> = (0..loops.len()).filter(|i| loops[*i].wrap != 0).collect();
     for i in &wrapping {
         let (first, last) = (loops[*i].xyz[0], loops[*i].xyz[loops[*i].xyz.len() - 1]);

@@ -34,12 +34,16 @@ pub fn loops_of(face: &Face) -> Vec<UvLoop> {
     built.collect()
 }
 
-/// None where document 01 refuses: other than two loops wrap, or the surface has no whole boundary.
 pub fn close(face: &Face) -> Option<Closing> {
+    close_loops(face, loops_of(face))
+}
+
+/// The same of loops that are worked out already. None where document 01 refuses: other than two
+/// loops wrap, or the surface has no whole boundary.
+pub fn close_loops(face: &Face, mut loops: Vec<UvLoop>) -> Option<Closing> {
     let surface = face.shape.surface();
     let domain = surface.domain();
     let options = face.shape.resolved();
-    let mut loops = loops_of(face);
     if loops.is_empty() {
         let outer = full_domain_loop(&surface, &domain, &options).ok()?;
         return Some(Closing { path: Path::Whole, outer, holes: Vec::new() });

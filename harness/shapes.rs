@@ -1,7 +1,6 @@
 //! Random surfaces and tolerances within the limits of document 01, "The face record", and often
 //! on them.
 
-use crate::compared::{self, Placement, Point, Tolerances};
 use crate::items::H;
 use crate::original::{Frame, Resolved, Surface, Vec3};
 use crate::random::Random;
@@ -183,23 +182,6 @@ impl Shape {
             max_depth: 1,
             interior_points: false,
         }
-    }
-
-    pub fn tolerances(&self) -> Tolerances {
-        Tolerances { sag: self.sag, angle: self.angle, segments: self.segments as usize }
-    }
-
-    /// The kind and its sizes for the Rattle crate.
-    pub fn numbered(&self) -> compared::Surface {
-        compared::Surface { kind: self.kind as u32, sizes: self.sizes }
-    }
-
-    /// The frame for the Rattle crate.
-    pub fn placed(&self) -> Placement {
-        let Frame { origin, axis, ref_dir } = self.frame();
-        let [origin, axis, reference] =
-            [origin, axis, ref_dir].map(|p| Point { x: p.x, y: p.y, z: p.z });
-        Placement { origin, axis, reference }
     }
 
     /// All of it as reals, for the report.

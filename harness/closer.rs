@@ -1,0 +1,25 @@
+//! The Rattle crate `closer`, linked as a static library: the call as `include/closer.h` declares
+//! it. Nothing checks this declaration against `crates/closer/src`: they must say the same.
+
+use std::ptr;
+
+#[link(name = "closer", kind = "static")]
+unsafe extern "C" {
+    fn closer_close_face(
+        record: *const u8,
+        record_length: usize,
+        result: *mut u8,
+        result_length: usize,
+        value: *mut u32,
+    ) -> u32;
+}
+
+/// The code and the value. The header lets what is empty be null.
+pub fn close_face(record: &[u8], result: &mut [u8]) -> (u32, u32) {
+    let from = if record.is_empty() { ptr::null() } else { record.as_ptr() };
+    let to = if result.is_empty() { ptr::null_mut() } else { result.as_mut_ptr() };
+    // No call has this value.
+    let mut value = u32::MAX;
+    let code = unsafe { closer_close_face(from, record.len(), to, result.len(), &mut value) };
+    (code, value)
+}
