@@ -1,8 +1,6 @@
 //! The Rattle crate `closer`, linked as a static library: the call as `include/closer.h` declares
 //! it. Nothing checks this declaration against `crates/closer/src`: they must say the same.
 
-use std::ptr;
-
 #[link(name = "closer", kind = "static")]
 unsafe extern "C" {
     fn closer_close_face(
@@ -10,16 +8,15 @@ unsafe extern "C" {
         record_length: usize,
         result: *mut u8,
         result_length: usize,
-        value: *mut u32,
+        value: *mut usize,
     ) -> u32;
 }
 
-/// The code and the value. The header lets what is empty be null.
-pub fn close_face(record: &[u8], result: &mut [u8]) -> (u32, u32) {
-    let from = if record.is_empty() { ptr::null() } else { record.as_ptr() };
-    let to = if result.is_empty() { ptr::null_mut() } else { result.as_mut_ptr() };
+/// The code and the value.
+pub fn close_face(record: &[u8], result: &mut [u8]) -> (u32, usize) {
+    let (from, to) = (record.as_ptr(), result.as_mut_ptr());
     // No call has this value.
-    let mut value = u32::MAX;
+    let mut value = usize::MAX;
     let code = unsafe { closer_close_face(from, record.len(), to, result.len(), &mut value) };
     (code, value)
 }

@@ -70,7 +70,8 @@ static uint32_t number(struct bytes *from)
 /* One stored face: what is written of it must be what is stored. */
 static void one_face(void)
 {
-    uint32_t lent_length = number(&faces), value = 0;
+    uint32_t lent_length = number(&faces);
+    size_t value = 0;
     uint32_t record_length = number(&faces);
     const uint8_t *record = next(&faces, record_length);
     uint32_t length = number(&answers);

@@ -45,14 +45,15 @@ pub fn compare(run: &Run) {
 /// and the result record.
 fn told(answer: &Answer) -> Vec<u8> {
     match answer {
-        Answer::Refused { number, place } => telling(*number, *place, None, &[]),
-        Answer::Closed(result) => telling(0, result.len() as u32, None, result),
+        Answer::Refused { number, place } => telling(*number, *place as usize, None, &[]),
+        Answer::Closed(result) => telling(0, result.len(), None, result),
     }
 }
 
-fn telling(code: u32, value: u32, changed: Option<usize>, result: &[u8]) -> Vec<u8> {
-    let changed = changed.map_or(u32::MAX, |at| at as u32);
-    let mut out: Vec<u8> = [code, value, changed].iter().flat_map(|n| n.to_le_bytes()).collect();
+fn telling(code: u32, value: usize, changed: Option<usize>, result: &[u8]) -> Vec<u8> {
+    let changed = changed.unwrap_or(usize::MAX);
+    let mut out: Vec<u8> =
+        [code as usize, value, changed].iter().flat_map(|n| n.to_le_bytes()).collect();
     out.extend(result);
     out
 }
@@ -80,7 +81,7 @@ impl Lent {
         let before = &self.patterns[pattern];
         self.bytes.copy_from_slice(before);
         let (code, value) = close_face(&call.record, &mut self.bytes[BESIDE..BESIDE + call.lent]);
-        let length = if code == 0 { (value as usize).min(call.lent) } else { 0 };
+        let length = if code == 0 { value.min(call.lent) } else { 0 };
         let end = BESIDE + length;
         let stays = |at: &usize| self.bytes[*at] != before[*at];
         let same = self.bytes[..BESIDE] == before[..BESIDE] && self.bytes[end..] == before[end..];

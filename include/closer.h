@@ -50,7 +50,7 @@ enum {
  *
  * What the caller has to see to:
  * - `record` is `record_length` bytes and `result` is `result_length` bytes; they and *value do not
- *   overlap. Either pointer may be null where its length is 0; `value` may not.
+ *   overlap, and none of the three pointers is null.
  * - The floating-point unit is in its default mode: rounding to nearest, and subnormal numbers kept.
  *   A program linked with -ffast-math changes that mode when it starts.
  *
@@ -59,7 +59,7 @@ enum {
  * (harness/stack.c).
  */
 uint32_t closer_close_face(const uint8_t *record, size_t record_length, uint8_t *result,
-                           size_t result_length, uint32_t *value);
+                           size_t result_length, size_t *value);
 
 #ifdef __cplusplus
 }
