@@ -64,9 +64,13 @@ abbrev pub none : Measured Vec3
 none = record { corners = []; wrap = pos 0 }
 
 module _ (s : List ℕ) where
+  pub wrap-in : (k : ℕ) → getD (wrapsIn s) k (pos 0) ≡ loopIn s k .wrap
+  unfolding loopIn
+  wrap-in k = getD-mapped (λ (m : Measured Vec3). m .wrap) (measuredIn s) k none
+
   pub wraps-in : (k : ℕ) → wrapsAt (wrapsIn s) k ≡ isWrapping (loopIn s k)
-  unfolding wrapsAt loopIn
-  wraps-in k = ap wraps (getD-mapped (λ (m : Measured Vec3). m .wrap) (measuredIn s) k none)
+  unfolding wrapsAt
+  wraps-in k = ap wraps (wrap-in k)
 
   -- the loops without their wraps
   pub unmarked : map (λ (m : Measured Vec3). m .corners) (measuredIn s) ≡ loopsIn s
