@@ -2,9 +2,9 @@
 use Prim.Native.Nat.{ℕ, suc, _+_}
 use mathlib.Core.Path.{_≡_, refl, sym, ap, _∙_, subst}
 use mathlib.Core.List.{List, [], _∷_, _++_, map}
-use native.Mathlib.Omega.{arith}
 use lib.Ieee.{Float}
-use lib.ListN.{length, take, drop, length-map, length-append, length-drop, take-append-drop}
+use lib.ListN.{length, take, drop, length-map}
+use lib.Seq.{take-add}
 use Rattle.numbers.specs.declared.math.Vec3.{Vec3}
 use Rattle.lists.specs.Pieces.{pieces}
 use Rattle.bands.specs.Corners.{Corner, Corners, us, positions}
@@ -13,6 +13,7 @@ use Rattle.bands.specs.Given.{Given}
 use Rattle.bands.specs.Strip.{Setting}
 use Rattle.bands.specs.Band.{outer, holes}
 use Rattle.bands.proofs.Demand.{holes-keep, holes-are}
+use Rattle.records.specs.Bytes.{sum}
 use Rattle.judgement.specs.Face.{settingIn, givenIn}
 use Rattle.judgement.specs.Paths.{ResultLoop, loopOf, signedArea, loopsFrom, wrappedLoops}
 use Rattle.faces.specs.Held.{concat, HoldsLoops, HoldsResult}
@@ -20,6 +21,7 @@ use Rattle.faces.proofs.Concat.{map-concat}
 use Rattle.holes.specs.Others.{others}
 use Rattle.holes.proofs.Others.{map-others}
 use Rattle.wrapped_path.specs.Result.{HoldsHoles, RoomBehind, BehindAs, wrappedOn}
+use Rattle.wrapped_path.proofs.Others.{total-length}
 
 -- judgement's wrapped path is this one, of the surface and the loops in the record
 pub wrapped-in : (s : List ℕ) → wrappedLoops s ≡ wrappedOn (settingIn s) (givenIn s)
@@ -33,20 +35,15 @@ points-kept S g =
     sym (length-map (concat (holes S g)) _) ∙ ap length (map-concat _ (holes S g) ∙ ap concat (holes-are S g) ∙ sym (map-concat _ (g .holes)))
     ∙ length-map (concat (g .holes)) (λ (c : Corner Vec3). c .at)
 
--- pieces that leave nothing over, one behind the other, are the list
-concat-pieces : {A B : Type 0} (ls : List (List B)) (w : List A) → length w ≡ length (concat ls) → concat (pieces (map length ls) w) ≡ w
-unfolding concat pieces
-concat-pieces [] [] e = refl
-concat-pieces [] (x ∷ w) e = absurd (omega arith)
-concat-pieces {A} (l ∷ ls) w e =
-    let both = length-append l (concat ls) in
-    let rest = length-drop (length l) w in
-    ap (λ (r : List A). take (length l) w ++ r) (concat-pieces ls (drop (length l) w) (omega arith)) ∙ take-append-drop (length l) w
+-- pieces one behind the other are the front of the list
+concat-pieces : {A : Type 0} (ns : List ℕ) (w : List A) → concat (pieces ns w) ≡ take (sum ns) w
+unfolding concat pieces sum
+concat-pieces [] w = refl
+concat-pieces {A} (n ∷ ns) w = ap (λ (r : List A). take n w ++ r) (concat-pieces ns (drop n w)) ∙ sym (take-add n (sum ns) w)
 
--- where the pieces of a list are the u of the holes, the list is their u, one hole behind the other
-pub u-held : (S : Setting Vec3) (g : Given Vec3) (hu : List Float) → length hu ≡ length (concat (g .holes)) → pieces (map length (g .holes)) hu ≡ map us (holes S g)
-    → hu ≡ us (concat (holes S g))
-u-held S g hu long e = sym (concat-pieces (g .holes) hu long) ∙ ap concat e ∙ sym (map-concat _ (holes S g))
+-- where the pieces of a list are the u of the holes, its front is their u, one hole behind the other
+pub u-held : (S : Setting Vec3) (g : Given Vec3) (hu : List Float) → pieces (map length (g .holes)) hu ≡ map us (holes S g) → take (length (concat (g .holes))) hu ≡ us (concat (holes S g))
+u-held S g hu e = ap (λ (m : ℕ). take m hu) (sym (total-length (g .holes))) ∙ sym (concat-pieces (map length (g .holes)) hu) ∙ ap concat e ∙ sym (map-concat _ (holes S g))
 
 -- ---- the result
 

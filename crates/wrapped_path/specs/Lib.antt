@@ -1,2 +1,3 @@
 pub mod Band
 pub mod Result
+pub mod Face

@@ -248,7 +248,7 @@ fn hole_count(loops: usize) -> usize
 }
 
 // How many points loop k has, of 512 at most.
-fn ring_count(u: &[f64], counts: &[usize], k: usize) -> usize
+pub fn ring_count(u: &[f64], counts: &[usize], k: usize) -> usize
     ensures { λ r. ⌜ r ≡ min (length (getD (pieces (now (counts .entry)) (now (u .entry))) k [])) maxPoints ⌝ }
 {
     shorter(piece_of(u, counts, k).len(), 512)

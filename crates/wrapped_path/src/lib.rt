@@ -1,4 +1,5 @@
-// The wrapped path on parallel slices: a ring of a face by itself, and the holes behind the band.
+// The wrapped path on parallel slices, from the loops of a face to its result: the rings by
+// themselves, the band between them, and the holes behind it.
 ghost use mathlib.Core.Path.{_≡_};
 ghost use mathlib.Core.List.{[]};
 ghost use lib.ListN.{getD};
@@ -8,6 +9,7 @@ use measuring::piece::piece_of;
 use slices::copy_into;
 
 pub mod band;
+pub mod face;
 pub mod result;
 
 // One parameter or coordinate of loop k into the front of dst.

@@ -46,9 +46,9 @@ no-more l h = omega arith
 pub front-long : {A : Type 0} (n : ℕ) (xs : List A) → n ≤ length xs → n ≡ length (take n xs)
 front-long n xs h = let l = length-take n xs in omega arith
 
--- the counts of the holes are among those that there is room for
-pub holes-long : (k : ℕ) (d : List ℕ) (loops : ℕ) → k ≡ min (loops - 2) maxLoops → length d ≡ maxLoops → k ≡ length (take k d)
-holes-long k d loops e l = front-long k d (omega arith)
+-- a front that is cut to the room there is
+pub cut-long : {A : Type 0} (k : ℕ) (d : List A) (m n : ℕ) → k ≡ min m n → length d ≡ n → k ≡ length (take k d)
+cut-long k d m n e l = front-long k d (omega arith)
 
 -- ---- the levels
 

@@ -1,6 +1,6 @@
 use borrow.Author.Needs.{needs}
 use mathlib.Core.Path.{refl, _∙_}
-use Rattle.wrapped_path.proofs.band.Laws.{holes-long, held-between}
+use Rattle.wrapped_path.proofs.band.Laws.{cut-long, held-between}
 use Rattle.wrapped_path.proofs.band.with_holes.Statement.{statement}
 use Rattle.wrapped_path.proofs.band.with_holes.Tie as tie
 
@@ -20,7 +20,7 @@ array-share-prefix-hcounts : tie.Need-array-share-prefix-hcounts
 array-share-prefix-hcounts c = search needs
 
 slice-aggregate-with-first : tie.Need-slice-aggregate-with-first
-slice-aggregate-with-first c = holes-long _ _ _ (c .before .before .before .before .before .before .before .before .before .before .before .before .hole-count .ensures) (c .before .before .before .before .before .before .before .before .before .before .before .before .before .hcounts2 .given)
+slice-aggregate-with-first c = cut-long _ _ _ _ (c .before .before .before .before .before .before .before .before .before .before .before .before .hole-count .ensures) (c .before .before .before .before .before .before .before .before .before .before .before .before .before .hcounts2 .given)
 
 with-first-requires : tie.Need-with-first-requires
 with-first-requires c κs = c .before .before .before .before .before .before .before .before .before .before .before .before .before .before .before .before .before .before .before .before .before .before .before .before .before .before .before .before .before .before .before .before .before .before .before .before .before .before .before .before .before .before .before .pre
