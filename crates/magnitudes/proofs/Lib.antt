@@ -1,0 +1,7 @@
+pub mod Loops
+pub mod Rings
+pub mod Record
+pub mod Closed
+pub mod Whole
+pub mod Bands
+pub mod Theorem

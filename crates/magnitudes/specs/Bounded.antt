@@ -1,0 +1,47 @@
+-- How large the reals of a result can be: what is claimed of the bytes of every face that the call closes. `Within B x` says that x is finite and at most B
+-- in size, so it rules out a NaN, an infinity and a number over B at once.
+use Prim.Native.Nat.{ℕ, _^_}
+use mathlib.Core.Path.{_≡_}
+use mathlib.Core.Bool.{false}
+use mathlib.Core.List.{List}
+use lib.Ieee.{Float, isNan}
+use Rattle.numbers.specs.Within.{Within, EachUv, EachXyz}
+use Rattle.records.specs.Call.{closed}
+use Rattle.records.specs.Result.{Result, All, decode}
+use Rattle.judgement.specs.Judge.{judge}
+
+-- what holds of every area, of every parameter and of every coordinate of a result
+pub record EachReal (area parameter coordinate : Float → Type 0) (r : Result) : Type 0 where
+  pub areas : All area (r .areas)
+  pub parameters : All (EachUv parameter) (r .parameters)
+  pub positions : All (EachXyz coordinate) (r .positions)
+
+-- no real is over 10^24 in size: what 02, N9, asks of the results that are handed in
+abbrev pub Bounded : List ℕ → Type 0
+Bounded b = EachReal (Within (10 ^ 24)) (Within (10 ^ 24)) (Within (10 ^ 24)) (decode b)
+
+-- the same, nearer to what the limits of a face record give: 18,014,398,509,481,984, then 4,194,304, then 4,294,967,296
+abbrev pub mostArea : ℕ
+mostArea = 2 ^ 54
+
+abbrev pub mostParameter : ℕ
+mostParameter = 2 ^ 22
+
+abbrev pub mostCoordinate : ℕ
+mostCoordinate = 2 ^ 32
+
+abbrev pub Narrow : List ℕ → Type 0
+Narrow b = EachReal (Within mostArea) (Within mostParameter) (Within mostCoordinate) (decode b)
+
+-- the pattern that `to_bits` of `numbers` writes for a NaN never stands in a result
+abbrev pub IsNumber : Float → Type 0
+IsNumber x = isNan x ≡ false
+
+abbrev pub Numbers : List ℕ → Type 0
+Numbers b = EachReal IsNumber IsNumber IsNumber (decode b)
+
+-- of every face that is closed
+pub record ResultBounded (lent : ℕ) (s : List ℕ) : Type 0 where
+  pub bounded : (b : List ℕ) → judge lent s ≡ closed b → Bounded b
+  pub narrow : (b : List ℕ) → judge lent s ≡ closed b → Narrow b
+  pub numbers : (b : List ℕ) → judge lent s ≡ closed b → Numbers b
