@@ -3,3 +3,4 @@ pub mod Held
 pub mod Chosen
 pub mod Whole
 pub mod Closing
+pub mod Banding

@@ -11,7 +11,7 @@ use Rattle.paths.proofs.closed.close_closed.Statement.{statement}
 use Rattle.paths.proofs.closed.close_closed.Tie as tie
 
 returns : tie.Need-returns
-returns c = λ s fine lent some none u-is v-is h. absurd (let most = loops-fit s fine _ _ _ _ _ _ h in let many = c .if1 .taken in omega arith)
+returns c = λ s fine lent some none u-is v-is h. absurd (let most = loops-fit s _ _ _ _ _ _ h fine in let many = c .if1 .taken in omega arith)
 
 array-borrow-prefix-starts : tie.Need-array-borrow-prefix-starts
 array-borrow-prefix-starts c = search needs
