@@ -1,0 +1,5 @@
+pub mod Refused
+pub mod Stages
+pub mod Reading
+pub mod Call
+pub mod Numbers

@@ -1,0 +1,37 @@
+// The call for C: the refusal, or 0, is the result; its place, or the record's length, is stored.
+ghost use mathlib.Core.Path.{_≡_};
+ghost use lib.ListN.{length};
+ghost use Rattle.records.specs.Call.{code, value as valueIn, lentAfter};
+ghost use Rattle.judgement.specs.Judge.{judge};
+ghost use Rattle.closer.specs.Entry.{codeOf, valueOf};
+use super::close_face;
+use paths::answer::Answer;
+
+fn code_of(answer: Answer) -> u32
+    ensures { λ r. ⌜ r ≡ codeOf answer ⌝ }
+{
+    match answer {
+        Answer::Closed(_) => 0,
+        Answer::Refused { number, place } => number as u32,
+    }
+}
+
+fn value_of(answer: Answer) -> usize
+    ensures { λ r. ⌜ r ≡ valueOf answer ⌝ }
+{
+    match answer {
+        Answer::Closed(n) => n,
+        Answer::Refused { number, place } => place,
+    }
+}
+
+#[no_mangle]
+pub extern "C" fn closer_close_face(record: &[u8], result: &mut [u8], value: &mut usize) -> u32
+    ensures { λ r. ⌜ r ≡ code (judge (length (now (result .entry))) (now («record» .entry))) ⌝ }
+    ensures { λ _. ⌜ now (value .exit) ≡ valueIn (judge (length (now (result .entry))) (now («record» .entry))) ⌝ }
+    ensures { λ _. ⌜ now (result .exit) ≡ lentAfter (judge (length (now (result .entry))) (now («record» .entry))) (now (result .entry)) ⌝ }
+{
+    let answer = close_face(record, result);
+    *value = value_of(answer);
+    code_of(answer)
+}
