@@ -81,7 +81,7 @@ fn records(name: &str, face: fn(&mut Random) -> Face) -> Vec<Vec<u8>> {
         let record = face_record(&face(&mut random));
         if let Answer::Closed(result) = judge(LENT, &record) {
             let told = closer::close_face(&record, &mut lent);
-            if told != (0, result.len() as u32) || lent[..result.len()] != result {
+            if told != (0, result.len()) || lent[..result.len()] != result {
                 println!("bench: {name}: the two sides differ");
                 std::process::exit(1);
             }
