@@ -1,0 +1,70 @@
+// Closes one face: reads its record from standard input, and writes its result record or six bytes
+// to standard output.
+ghost use mathlib.Core.Path.{_≡_};
+ghost use mathlib.Core.List.{List};
+ghost use Prim.Native.Nat.{ℕ, _≤_};
+ghost use lib.ListN.{length, take};
+ghost use Rattle.records.specs.Call.{output};
+ghost use Rattle.records.specs.Limits.{resultBytes};
+ghost use Rattle.judgement.specs.Judge.{judge};
+ghost use Rattle.close.specs.Input.{Within};
+use answers::write_answer;
+
+enum Input {
+    // So many bytes are there.
+    Length(usize),
+    // A read failed, and the input may not have been at its end.
+    Failed,
+}
+
+// Reads once, to the bytes from `done` on.
+fn read_more(fd: i32, bytes: &mut [u8], done: usize) -> Input
+    requires { ⌜ done ≤ length (now bytes) ⌝ }
+    ensures { λ r. ⌜ Within r done (length (now (bytes .exit))) ⌝ }
+{
+    let got = libc::read(fd, &mut bytes[done..]);
+    if got < 0 {
+        return Input::Failed;
+    }
+    let more = io::count(got, &bytes[done..]);
+    Input::Length(done + more)
+}
+
+// Reads until the input ends or the bytes are full.
+fn read_input(fd: i32, bytes: &mut [u8]) -> Input
+    ensures { λ r. ⌜ Within r 0 (length (now (bytes .exit))) ⌝ }
+{
+    let mut done = 0;
+    while done < bytes.len() {
+        let Input::Length(there) = read_more(fd, bytes, done) else {
+            return Input::Failed;
+        };
+        if there == done {
+            return Input::Length(done);
+        }
+        done = there;
+    }
+    Input::Length(done)
+}
+
+// What is to be written of the input that was read so far, at the front of `out`.
+fn answer_input(read: &[u8], out: &mut [u8]) -> usize
+    ensures { λ r. ⌜ r ≤ length (now (out .exit)) ⌝ }
+    ensures { λ r. ⌜ (length (now (out .entry)) ≡ resultBytes
+        → (input : List ℕ) → now (read .entry) ≡ take 20622 input → take r (now (out .exit)) ≡ output (judge resultBytes input)) ⌝ }
+{
+    write_answer(read, out)
+}
+
+// The longest record that is accepted has 20,621 bytes. Of an input one byte more is read, and the
+// answer to those is the answer to all of it.
+fn main() {
+    let mut face = [0u8; 20622];
+    let input = read_input(0, &mut face);
+    let Input::Length(n) = input else {
+        return;
+    };
+    let mut out = [0u8; 61614];
+    let length = answer_input(&face[..n], &mut out);
+    io::write_all(1, &out[..length]);
+}
