@@ -6,7 +6,7 @@ use borrow.Author.Tests.{lt-ltb, le-ltb}
 use lib.ListN.{length}
 use Rattle.records.specs.Accepted.{Accepted}
 use Rattle.records.specs.Call as Call
-use Rattle.records.specs.Call.{Outcome, refused, outcome, lentAfter}
+use Rattle.records.specs.Call.{Outcome, outcome, lentAfter}
 use Rattle.records.specs.Limits.{resultBytes}
 use Rattle.records.specs.Refusals.{Verdict, passes, refuses, conditions, recordConditions, tooFewLent, verdict}
 use Rattle.records.proofs.Accepted.{accepted-exactly}
@@ -16,14 +16,11 @@ use Rattle.paths.specs.declared.answer.Answer.{Answer}
 use Rattle.paths.specs.declared.answer.Answer.the-variants.{Refused}
 use Rattle.paths.specs.Answer.{answerOf, AnswersTo}
 use Rattle.paths.specs.Judged.{judged}
+use Rattle.paths.proofs.Writing.{refused-by}
 use Rattle.closer.specs.declared.verdict.Verdict.{Verdict as Found}
 use Rattle.closer.specs.declared.verdict.Verdict.the-variants.{Passes, Refuses}
 use Rattle.closer.specs.Stages.{verdictOf}
 use Rattle.closer.proofs.Stages.{first-refuse, first-pass}
-
--- what is answered and left where the judgement is a refusal
-refused-by : (o : Outcome) (n p : ℕ) → o ≡ refused n p → (old : List ℕ) → AnswersTo o (Refused n p) old old
-refused-by o n p e old = record { answer = sym (ap answerOf e); lent = sym (ap (λ (j : Outcome). lentAfter j old) e) }
 
 -- the two equations of the contract
 pub both : {o : Outcome} {r : Answer} {old new : List ℕ} → AnswersTo o r old new → (r ≡ answerOf o) × (new ≡ lentAfter o old)

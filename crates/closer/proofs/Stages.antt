@@ -17,7 +17,7 @@ use Rattle.bands.specs.Columns.{settingOf}
 use Rattle.measuring.specs.Head.{frameAt, optionsAt}
 use Rattle.measuring.proofs.Heads.{frame-read, surface-read, options-read}
 use Rattle.records.specs.Bytes.{_=?_}
-use Rattle.records.specs.Call.{Outcome, refused, closed, outcome, lentAfter}
+use Rattle.records.specs.Call.{Outcome, refused, closed, outcome}
 use Rattle.records.specs.Face.{loops}
 use Rattle.records.specs.Refusals.{Place, nowhere, at, Condition, Verdict, passes, refuses, refuseAt, verdict}
 use Rattle.records.proofs.Refused.{verdict-passes}
@@ -35,9 +35,10 @@ use Rattle.measuring.specs.Refusals.{wrappingOf}
 use Rattle.measuring.proofs.Judged.{wrapping-in}
 use Rattle.paths.specs.declared.answer.Answer.{Answer}
 use Rattle.paths.specs.declared.answer.Answer.the-variants.{Refused}
-use Rattle.paths.specs.Answer.{answerOf, AnswersTo, Closable}
+use Rattle.paths.specs.Answer.{AnswersTo, Closable}
 use Rattle.measuring.specs.Wraps.{wrapsIn}
 use Rattle.paths.specs.Judged.{stripConditions, judged}
+use Rattle.paths.proofs.Writing.{refused-by}
 use Rattle.closer.specs.declared.verdict.Verdict.{Verdict as Found}
 use Rattle.closer.specs.declared.verdict.Verdict.the-variants.{Passes, Refuses}
 use Rattle.closer.specs.Stages.{ReadAs, verdictOf, ringConditions}
@@ -76,9 +77,7 @@ module _ (s : List ℕ) where
 
   module _ (found : Found) (found-is : verdictOf found ≡ verdict ringConditions s) where
     pub refused-as : (n p : ℕ) → found ≡ Refuses n p → (old : List ℕ) → AnswersTo (judged laterConditions s) (Refused n p) old old
-    refused-as n p e old =
-        let o : judged laterConditions s ≡ refused n p = rings-refuse n p (sym found-is ∙ ap verdictOf e) in
-        record { answer = sym (ap answerOf o); lent = sym (ap (λ (j : Outcome). lentAfter j old) o) }
+    refused-as n p e old = refused-by _ n p (rings-refuse n p (sym found-is ∙ ap verdictOf e)) old
 
     pub passed-as : found ≡ Passes → verdict ringConditions s ≡ passes
     passed-as e = sym found-is ∙ ap verdictOf e

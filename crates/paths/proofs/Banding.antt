@@ -17,7 +17,7 @@ use Rattle.bands.specs.Band.{stripOf, outer, holes}
 use Rattle.bands.proofs.Demand.{holes-as-many}
 use Rattle.records.specs.Accepted.{Accepted}
 use Rattle.records.specs.Bytes.{sum}
-use Rattle.records.specs.Call.{Outcome, refused, closed, lentAfter}
+use Rattle.records.specs.Call.{Outcome, refused, closed}
 use Rattle.records.specs.Face.{loops, points}
 use Rattle.records.specs.Limits.{maxLoops, maxStrip}
 use Rattle.records.specs.Refusals.{at, verdict}
@@ -37,12 +37,13 @@ use Rattle.wrapped_path.specs.Result.{wrappedOn}
 use Rattle.wrapped_path.proofs.Wrapped.{wrapped-in, points-kept}
 use Rattle.paths.specs.declared.answer.Answer.{Answer}
 use Rattle.paths.specs.declared.answer.Answer.the-variants.{Refused}
-use Rattle.paths.specs.Answer.{answerOf, AnswersTo, Closable}
+use Rattle.paths.specs.Answer.{AnswersTo, Closable}
 use Rattle.paths.specs.Judged.{stripConditions, judged}
 use Rattle.paths.proofs.Chosen.{takes-wrapped, path-wrapped}
 use Rattle.wrapped_path.proofs.Others.{total-length}
 use Rattle.paths.proofs.Closing.{loops-counted, points-most}
 use Rattle.paths.proofs.Held.{held-by-counts}
+use Rattle.paths.proofs.Writing.{refused-by}
 
 -- what passes a test and what does not are all
 parted : {A : Type 0} (test : A → Bool) (xs : List A) → length (only test xs) + length (only (λ (x : A). not (test x)) xs) ≡ length xs
@@ -159,10 +160,7 @@ module _ (s : List ℕ) (a : Accepted s) (two : wrapping s ≡ 2) where
           by-test false m b w = let d : _≡_ {A = ℕ} 0 1 = cc in omega arith
 
       pub band-refused : (n : ℕ) → r ≡ TooMany n → (old : List ℕ) → AnswersTo (judged stripConditions s) (Refused 12 n) old old
-      band-refused n e old =
-          let t = long-told n e in
-          let o : judged stripConditions s ≡ refused 12 n = strip-refuses (t .0) ∙ ap (refused 12) (sym (t .1)) in
-          record { answer = sym (ap answerOf o); lent = sym (ap (λ (j : Outcome). lentAfter j old) o) }
+      band-refused n e old = let t = long-told n e in refused-by _ 12 n (strip-refuses (t .0) ∙ ap (refused 12) (sym (t .1))) old
 
       module _ (n : ℕ) (area : Float) (e : r ≡ Closed n area) where
         pub band-closable : Closable s

@@ -1,4 +1,4 @@
--- A result that the slices hold is written whole.
+-- A result that the slices hold is written whole; a refusal writes nothing.
 use Prim.Native.Nat.{ℕ, zero, suc, _≤_}
 use mathlib.Core.Path.{_≡_, refl, sym, ap, _∙_}
 use mathlib.Core.Bool.{Bool, true}
@@ -10,7 +10,7 @@ use lib.ListN.{length, take, length-map}
 use Rattle.numbers.specs.declared.math.Vec3.{Vec3}
 use Rattle.bands.specs.Corners.{Corner}
 use Rattle.records.specs.Bytes.{sum}
-use Rattle.records.specs.Call.{closed}
+use Rattle.records.specs.Call.{Outcome, refused, closed, lentAfter}
 use Rattle.records.specs.Lent.{filledIf, least5}
 use Rattle.records.specs.Limits.{resultBytes}
 use Rattle.records.specs.Result.{All, none, and, Short, Writable, encode, cornersOf, countOf, resultOf}
@@ -24,8 +24,12 @@ use Rattle.judgement.specs.Paths.{uvOf, xyzOf, pathIn, resultLoops, resultIn}
 use Rattle.judgement.proofs.Written.{result-fine, result-writable}
 use Rattle.faces.specs.Held.{HoldsResult}
 use Rattle.paths.specs.declared.answer.Answer.{Answer}
-use Rattle.paths.specs.declared.answer.Answer.the-variants.{Closed}
-use Rattle.paths.specs.Answer.{answerFor, AnswersTo, Closable}
+use Rattle.paths.specs.declared.answer.Answer.the-variants.{Closed, Refused}
+use Rattle.paths.specs.Answer.{answerOf, answerFor, AnswersTo, Closable}
+
+-- what is answered and left where the judgement is a refusal
+pub refused-by : (o : Outcome) (n p : ℕ) → o ≡ refused n p → (old : List ℕ) → AnswersTo o (Refused n p) old old
+refused-by o n p e old = record { answer = sym (ap answerOf e); lent = sym (ap (λ (j : Outcome). lentAfter j old) e) }
 
 short-all : {counts : List ℕ} → All Short counts → allShort counts ≡ true
 unfolding allShort
