@@ -1,5 +1,6 @@
 pub mod Heads
 pub mod EachPiece
+pub mod Recorded
 pub mod Measured
 pub mod OnePiece
 pub mod Searches
