@@ -16,7 +16,8 @@ pub mod rings;
 pub mod verdict;
 
 // The face record is closed into the front of the lent bytes, or refused; refused, the lent bytes
-// keep their values.
+// keep their values. What is claimed of `judge`, demands 1 and 3, stands beside its definition in
+// crates/judgement/specs/Judge.antt.
 pub fn close_face(record: &[u8], result: &mut [u8]) -> Answer
     ensures { λ r. ⌜ r ≡ answerOf (judge (length (now (result .entry))) (now («record» .entry))) ⌝ }
     ensures { λ _. ⌜ now (result .exit) ≡ lentAfter (judge (length (now (result .entry))) (now («record» .entry))) (now (result .entry)) ⌝ }
