@@ -1,7 +1,7 @@
 -- A record that the check lets pass is read whole into arrays of the limits.
 use Prim.Native.Nat.{ℕ, _≤_}
 use mathlib.Core.Path.{_≡_, refl, sym, ap, _∙_, subst}
-use mathlib.Core.Bool.{Bool, true, false, _&&_, true≢false}
+use mathlib.Core.Bool.{Bool, true, false}
 use mathlib.Core.List.{List}
 use native.Mathlib.Omega.{arith}
 use borrow.Author.Tests.{leb-true}
@@ -15,6 +15,7 @@ use Rattle.records.specs.Bytes.{_≤?_}
 use Rattle.records.specs.Face.{kind, sense, segments, loops, counts, points, needed}
 use Rattle.records.specs.Lent.{readIf, countsThere, countsFit, pointsFit, CountsRead, HeadRead, PointsRead, least5}
 use Rattle.records.proofs.Columns.{length-counts}
+use Rattle.results.proofs.Whole.{and-snd}
 use Rattle.judgement.specs.Face.{loopsIn}
 use Rattle.faces.specs.Held.{HoldsLoops}
 use Rattle.measuring.proofs.ReadLoops.{head-read-back, counts-read-back, read-loops, points-answer}
@@ -27,15 +28,11 @@ unfolding readIf
 count-told true m n r e h = let z : n ≡ m = cc in (refl, z)
 count-told false m n r e h = absurd (let z : _≡_ {A = ℕ} 0 1 = cc in omega arith)
 
-second : (a b : Bool) → (a && b) ≡ true → b ≡ true
-second true b h = h
-second false b h = absurd (true≢false (sym h))
-
 pub points-told : (s : List ℕ) {n : ℕ} {r : Read} → r ≡ readIf (pointsFit s 512) (points s) → r ≡ Count n → n ≤ 512
 unfolding pointsFit
 points-told s {n} {r} e h =
     let t = count-told (pointsFit s 512) (points s) n r e h in
-    let room = leb-true (points s) 512 (second (needed s ≤? length s) (points s ≤? 512) (t .0)) in
+    let room = leb-true (points s) 512 (and-snd (needed s ≤? length s) (points s ≤? 512) (t .0)) in
     let same = t .1 in
     omega arith
 
@@ -43,7 +40,7 @@ pub counts-told : (s : List ℕ) {l : ℕ} {r : Read} → r ≡ readIf (countsFi
 unfolding countsFit
 counts-told s {l} {r} e h =
     let t = count-told (countsFit s 16) (length (counts s)) l r e h in
-    let room = leb-true (loops s) 16 (second (countsThere s) (loops s ≤? 16) (t .0)) in
+    let room = leb-true (loops s) 16 (and-snd (countsThere s) (loops s ≤? 16) (t .0)) in
     let same = t .1 ∙ length-counts s in
     omega arith
 

@@ -4,7 +4,7 @@ use mathlib.Core.Path.{_≡_, sym, ap, _∙_}
 use mathlib.Core.List.{List}
 use lib.IntN.{ℤ}
 use lib.Ieee.{Float}
-use lib.ListN.{length, length-map}
+use lib.ListN.{length}
 use Rattle.records.specs.Face as Face
 use Rattle.records.specs.Answers.{placeOf}
 use Rattle.records.specs.declared.check.Place.{Place}
@@ -12,11 +12,11 @@ use Rattle.records.specs.declared.check.Place.the-variants.{Nowhere, At}
 use Rattle.records.specs.Refusals.{passes, refuses, verdict}
 use Rattle.judgement.specs.Face.{loopsIn}
 use Rattle.judgement.specs.Later.{openRing, oneRing, manyRings, openSurface}
-use Rattle.judgement.proofs.Loops.{loops-many}
 use Rattle.faces.specs.Held.{HoldsLoops}
 use Rattle.measuring.specs.Refusals.{openAmong, oneAmong, manyAmong, openKind}
 use Rattle.measuring.proofs.Judged.{open-ring-in, one-ring-in, many-rings-in, open-surface-in}
 use Rattle.measuring.specs.Wraps.{wrapsIn}
+use Rattle.paths.proofs.Closing.{loops-counted}
 use Rattle.closer.specs.Stages.{ringConditions}
 
 module _ (kind : ℕ) (x y z : List Float) (counts : List ℕ) (wraps : List ℤ) (s : List ℕ) (u v : List Float)
@@ -47,7 +47,7 @@ module _ (kind : ℕ) (x y z : List Float) (counts : List ℕ) (wraps : List ℤ
 
       module _ (none₁₀ : p₁₀ ≡ Nowhere) (l : ℕ) (l-is : l ≡ length counts) (p₁₁ : Place) (f₁₁ : placeOf p₁₁ ≡ openKind kind l) where
         many : l ≡ Face.loops s
-        many = l-is ∙ ap length (h .counts-are) ∙ length-map (loopsIn s) length ∙ loops-many s
+        many = l-is ∙ loops-counted s counts u v x y z h
 
         eleven : openSurface s ≡ placeOf p₁₁
         eleven = sym (f₁₁ ∙ (λ i. openKind (k i) (many i)) ∙ open-surface-in s)

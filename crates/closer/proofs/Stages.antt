@@ -6,7 +6,7 @@ use native.Mathlib.Omega.{arith}
 use borrow.Author.Tests.{ne-eqb}
 use lib.IntN.{ℤ}
 use lib.Ieee.{Float, nan}
-use lib.ListN.{length, getD, take, length-map}
+use lib.ListN.{length, getD, take}
 use Rattle.surfaces.specs.declared.surface.Period.{Period}
 use Rattle.surfaces.specs.declared.surface.Surface.{Surface}
 use Rattle.surfaces.specs.Domains.{uPeriod, vPeriod}
@@ -21,11 +21,11 @@ use Rattle.records.specs.Call.{Outcome, refused, closed, outcome}
 use Rattle.records.specs.Face.{loops}
 use Rattle.records.specs.Refusals.{Place, nowhere, at, Condition, Verdict, passes, refuses, refuseAt, verdict}
 use Rattle.records.proofs.Refused.{verdict-passes}
-use Rattle.judgement.specs.Face.{surfaceOf, loopsIn, measuredIn, isWrapping, wrapping, surfaceIn, frameIn, optionsIn, senseIn, settingIn, periodLength, uPeriodIn, vPeriodIn}
+use Rattle.judgement.specs.Face.{surfaceOf, measuredIn, isWrapping, wrapping, surfaceIn, frameIn, optionsIn, senseIn, settingIn, periodLength, uPeriodIn, vPeriodIn}
 use Rattle.judgement.specs.Judge.{result}
 use Rattle.judgement.specs.Later.{longStrip, laterConditions}
 use Rattle.judgement.proofs.Demands.{two-wrap}
-use Rattle.judgement.proofs.Loops.{loops-many, measured-many}
+use Rattle.judgement.proofs.Loops.{measured-many}
 use Rattle.judgement.proofs.Sizes.{only-few}
 use Rattle.lists.specs.Pieces.{pieces}
 use Rattle.lists.specs.Placed.{placed}
@@ -38,6 +38,7 @@ use Rattle.paths.specs.declared.answer.Answer.the-variants.{Refused}
 use Rattle.paths.specs.Answer.{AnswersTo, Closable}
 use Rattle.measuring.specs.Wraps.{wrapsIn}
 use Rattle.paths.specs.Judged.{stripConditions, judged}
+use Rattle.paths.proofs.Closing.{loops-counted}
 use Rattle.paths.proofs.Writing.{refused-by}
 use Rattle.closer.specs.declared.verdict.Verdict.{Verdict as Found}
 use Rattle.closer.specs.declared.verdict.Verdict.the-variants.{Passes, Refuses}
@@ -94,7 +95,7 @@ module _ (s : List ℕ) where
 
   module _ (a : Accepted s) (kind sense segments : ℕ) (head : List Float) (counts : List ℕ) (u v x y z : List Float) (read : ReadAs s kind sense segments head counts u v x y z) where
     counted : length counts ≡ loops s
-    counted = ap length (read .loops-held .counts-are) ∙ length-map (loopsIn s) length ∙ loops-many s
+    counted = loops-counted s counts u v x y z (read .loops-held)
 
     pub no-loops : length counts ≡ 0 → loops s ≡ 0
     no-loops e = sym counted ∙ e
@@ -163,7 +164,7 @@ module _ (s : List ℕ) where
         (e ∙ ap (λ (q : Period). placed 0 (map (wrapAlong q) (pieces counts u)) w₀) (p-is ∙ ap uPeriod surface-is))
 
     pub few-counts : Accepted s → length counts ≤ 16
-    few-counts a = let e = ap length (read .loops-held .counts-are) ∙ length-map (loopsIn s) length ∙ loops-many s in let f = a .loops-are in omega arith
+    few-counts a = let e = loops-counted s counts u v x y z (read .loops-held) in let f = a .loops-are in omega arith
 
   pub period-u : (surface : Surface) → surface ≡ surfaceIn s → (p : Period) → p ≡ uPeriod surface → (f : Float) → f ≡ periodLength p → f ≡ uPeriodIn s
   period-u surface e p p-is f f-is = f-is ∙ ap periodLength (p-is ∙ ap uPeriod e)
