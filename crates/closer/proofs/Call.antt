@@ -2,16 +2,23 @@
 use Prim.Native.Nat.{ℕ, _≤_, _<_}
 use mathlib.Core.Path.{_≡_, sym, ap, _∙_, subst}
 use mathlib.Core.List.{List, _++_}
+use native.Mathlib.Omega.{arith}
+use mir.Syntax.{w8}
+use mir.Val.{Fits}
 use borrow.Author.Tests.{lt-ltb, le-ltb}
-use lib.ListN.{length}
+use lib.ListN.{length, getD}
 use Rattle.records.specs.Accepted.{Accepted}
 use Rattle.records.specs.Call as Call
-use Rattle.records.specs.Call.{Outcome, outcome, lentAfter}
+use Rattle.records.specs.Call.{Outcome, outcome, code, value, lentAfter}
 use Rattle.records.specs.Limits.{resultBytes}
 use Rattle.records.specs.Refusals.{Verdict, passes, refuses, conditions, recordConditions, tooFewLent, verdict}
 use Rattle.records.proofs.Accepted.{accepted-exactly}
+use Rattle.judgement.specs.Demands.{Demand1, BandDemand}
 use Rattle.judgement.specs.Judge.{judge, result}
 use Rattle.judgement.specs.Later.{laterConditions}
+use Rattle.judgement.proofs.Demands.{demand-1, demand-3}
+use Rattle.magnitudes.specs.Bounded.{ResultBounded}
+use Rattle.magnitudes.proofs.Theorem.{result-bounded}
 use Rattle.paths.specs.declared.answer.Answer.{Answer}
 use Rattle.paths.specs.declared.answer.Answer.the-variants.{Refused}
 use Rattle.paths.specs.Answer.{answerOf, AnswersTo}
@@ -19,12 +26,37 @@ use Rattle.paths.specs.Judged.{judged}
 use Rattle.paths.proofs.Writing.{refused-by}
 use Rattle.closer.specs.declared.verdict.Verdict.{Verdict as Found}
 use Rattle.closer.specs.declared.verdict.Verdict.the-variants.{Passes, Refuses}
+use Rattle.closer.specs.Returned.{codeOf, valueOf}
 use Rattle.closer.specs.Stages.{verdictOf}
+use Rattle.closer.proofs.Numbers.{code-is, value-is}
 use Rattle.closer.proofs.Stages.{first-refuse, first-pass}
 
--- the two equations of the contract
-pub both : {o : Outcome} {r : Answer} {old new : List ℕ} → AnswersTo o r old new → (r ≡ answerOf o) × (new ≡ lentAfter o old)
-both h = (h .answer, h .lent)
+-- the contract of the call, from what it answers and leaves; the record is one of bytes
+module _ (s old : List ℕ) (byte : Fits w8 (getD s 2 0)) where
+  abbrev o : Outcome
+  o = judge (length old) s
+
+  pub promised : {r : Answer} {new : List ℕ} → AnswersTo o r old new
+      → (r ≡ answerOf o)
+      × ((new ≡ lentAfter o old)
+      × (Demand1 s old (codeOf r) (valueOf r) new
+      × (BandDemand s (codeOf r) new
+      × ResultBounded (codeOf r) new)))
+  promised {r} {new} h =
+      let c = code-is o r (h .answer) in
+      let v = value-is o r (h .answer) in
+      let n = h .lent in
+      let loops-byte : getD s 2 0 < 256 = omega (arith, byte) in
+      (h .answer, (n, (rw (c, v, n) (demand-1 s old loops-byte), (rw (c, n) (demand-3 s old), rw (c, n) (result-bounded s old)))))
+
+-- what is promised of an answer, of the two numbers that are told of it
+pub paired : (o : Outcome) (s old : List ℕ) {r : Answer} {new : List ℕ} {number at : ℕ} → number ≡ codeOf r → at ≡ valueOf r
+    → (r ≡ answerOf o) × ((new ≡ lentAfter o old) × (Demand1 s old (codeOf r) (valueOf r) new × (BandDemand s (codeOf r) new × ResultBounded (codeOf r) new)))
+    → (number ≡ code o) × ((at ≡ value o) × ((new ≡ lentAfter o old) × (Demand1 s old number at new × (BandDemand s number new × ResultBounded number new))))
+paired o s old {r} {new} n v h = (
+  n ∙ code-is o r (h .0),
+  (v ∙ value-is o r (h .0), (h .1 .0, (rw (n, v) (h .1 .1 .0), (rw n (h .1 .1 .1 .0), rw n (h .1 .1 .1 .1))))),
+)
 
 module _ (old s : List ℕ) where
   pub too-few : length old < resultBytes → AnswersTo (judge (length old) s) (Refused 1 resultBytes) old old

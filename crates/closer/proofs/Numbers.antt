@@ -3,7 +3,7 @@ use mathlib.Core.Path.{_≡_, ap}
 use Rattle.records.specs.Call.{Outcome, refused, closed, code, value}
 use Rattle.paths.specs.declared.answer.Answer.{Answer}
 use Rattle.paths.specs.Answer.{answerOf}
-use Rattle.closer.specs.Entry.{codeOf, valueOf}
+use Rattle.closer.specs.Returned.{codeOf, valueOf}
 
 pub code-is : (o : Outcome) (r : Answer) → r ≡ answerOf o → codeOf r ≡ code o
 code-is (refused n p) r e = ap codeOf e

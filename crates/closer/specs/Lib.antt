@@ -1,2 +1,2 @@
 pub mod Stages
-pub mod Entry
+pub mod Returned

@@ -2,8 +2,10 @@
 ghost use mathlib.Core.Path.{_≡_};
 ghost use lib.ListN.{length};
 ghost use Rattle.records.specs.Call.{code, value as valueIn, lentAfter};
+ghost use Rattle.judgement.specs.Demands.{Demand1, BandDemand};
 ghost use Rattle.judgement.specs.Judge.{judge};
-ghost use Rattle.closer.specs.Entry.{codeOf, valueOf};
+ghost use Rattle.magnitudes.specs.Bounded.{ResultBounded};
+ghost use Rattle.closer.specs.Returned.{codeOf, valueOf};
 use super::close_face;
 use paths::answer::Answer;
 
@@ -25,11 +27,15 @@ fn value_of(answer: Answer) -> usize
     }
 }
 
+// What `close_face` says of its answer is said here of the pair.
 #[no_mangle]
 pub extern "C" fn closer_close_face(record: &[u8], result: &mut [u8], value: &mut usize) -> u32
     ensures { λ r. ⌜ r ≡ code (judge (length (now (result .entry))) (now («record» .entry))) ⌝ }
     ensures { λ _. ⌜ now (value .exit) ≡ valueIn (judge (length (now (result .entry))) (now («record» .entry))) ⌝ }
     ensures { λ _. ⌜ now (result .exit) ≡ lentAfter (judge (length (now (result .entry))) (now («record» .entry))) (now (result .entry)) ⌝ }
+    ensures { λ r. ⌜ Demand1 (now («record» .entry)) (now (result .entry)) r (now (value .exit)) (now (result .exit)) ⌝ }
+    ensures { λ r. ⌜ BandDemand (now («record» .entry)) r (now (result .exit)) ⌝ }
+    ensures { λ r. ⌜ ResultBounded r (now (result .exit)) ⌝ }
 {
     let answer = close_face(record, result);
     *value = value_of(answer);

@@ -2,8 +2,11 @@
 ghost use mathlib.Core.Path.{_≡_};
 ghost use lib.ListN.{length};
 ghost use Rattle.records.specs.Call.{lentAfter};
+ghost use Rattle.judgement.specs.Demands.{Demand1, BandDemand};
 ghost use Rattle.judgement.specs.Judge.{judge};
+ghost use Rattle.magnitudes.specs.Bounded.{ResultBounded};
 ghost use Rattle.paths.specs.Answer.{answerOf};
+ghost use Rattle.closer.specs.Returned.{codeOf, valueOf};
 use paths::answer::Answer;
 use record::close_record;
 use verdict::Verdict;
@@ -16,11 +19,15 @@ pub mod rings;
 pub mod verdict;
 
 // The face record is closed into the front of the lent bytes, or refused; refused, the lent bytes
-// keep their values. What is claimed of `judge`, demands 1 and 3, stands beside its definition in
-// crates/judgement/specs/Judge.antt.
+// keep their values. The first two clauses say what is returned and what the lent bytes are then, by
+// the definition of the whole call. The others are what 01 demands of both: demand 1, demand 3, and
+// that every real of a result is finite and at most 10^24 in size.
 pub fn close_face(record: &[u8], result: &mut [u8]) -> Answer
     ensures { λ r. ⌜ r ≡ answerOf (judge (length (now (result .entry))) (now («record» .entry))) ⌝ }
     ensures { λ _. ⌜ now (result .exit) ≡ lentAfter (judge (length (now (result .entry))) (now («record» .entry))) (now (result .entry)) ⌝ }
+    ensures { λ r. ⌜ Demand1 (now («record» .entry)) (now (result .entry)) (codeOf r) (valueOf r) (now (result .exit)) ⌝ }
+    ensures { λ r. ⌜ BandDemand (now («record» .entry)) (codeOf r) (now (result .exit)) ⌝ }
+    ensures { λ r. ⌜ ResultBounded (codeOf r) (now (result .exit)) ⌝ }
 {
     if result.len() < 61614 {
         return Answer::Refused {

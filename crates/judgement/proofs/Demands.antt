@@ -1,13 +1,16 @@
 -- Demands 1 and 3 of the whole call.
-use Prim.Native.Nat.{ℕ, _+_, _≤_, _<_}
+use Prim.Native.Nat.{ℕ, zero, suc, _+_, _≤_, _<_}
 use mathlib.Core.Path.{_≡_, refl, sym, ap, _∙_, subst}
 use mathlib.Core.Bool.{Bool, true, false, cond, _&&_}
-use mathlib.Core.List.{List, [], _∷_, map, reverse}
+use mathlib.Core.List.{List, [], _∷_, _++_, map, reverse}
+use mathlib.Core.Logic.{_↔_}
+use native.Mathlib.Nat.{zero-lt-suc}
 use native.Mathlib.Omega.{arith}
 use lib.ListN.{length, getD, drop, length-map, length-reverse}
+use lib.Seq.{drop-append-seam}
 use lib.Ieee.{Float}
 use lib.IntN.{pos}
-use borrow.Author.Tests.{ltb-false, eq-eqb, ne-eqb, not-false}
+use borrow.Author.Tests.{ltb-false, eqb-false, eq-eqb, ne-eqb, not-false}
 use Rattle.numbers.specs.Position.{same}
 use Rattle.numbers.specs.declared.math.Vec3.{Vec3}
 use Rattle.loops.specs.Rings.{endsMeet}
@@ -19,23 +22,25 @@ use Rattle.bands.specs.Demand.{Demand3}
 use Rattle.bands.specs.Given.{Measured, only, givenOf}
 use Rattle.bands.proofs.Demand.{holes-as-many, demand3}
 use Rattle.bands.specs.Demand.{Whole}
-use Rattle.records.specs.Bytes.{sum, _<?_}
-use Rattle.records.specs.Call.{closed, lentAfter}
+use Rattle.records.specs.Bytes.{sum, byteAt, _<?_, _=?_}
+use Rattle.records.specs.Call.{Outcome, refused, closed, code, value, lentAfter}
 use Rattle.records.specs.Face.{loops}
 use Rattle.records.specs.Limits.{maxLoops, maxPoints, maxStrip}
-use Rattle.records.specs.Refusals.{nowhere, firstWhere, NoneHolds}
-use Rattle.records.specs.Result.{All, Writable, decode, loopPositionsOf, countOf, resultOf}
+use Rattle.records.specs.Refusals.{nowhere, at, firstWhere, Condition, never, NoneHolds}
+use Rattle.records.specs.Result.{All, none, and, Writable, encode, decode, loopPositionsOf, countOf, resultOf}
 use Rattle.records.proofs.Closing.{closed-accepted, closed-read, closed-length, closed-fits, lent-stays}
 use Rattle.records.proofs.Pieces.{loop-positions}
 use Rattle.records.proofs.Refused.{refused-exactly, closed-exactly}
-use Rattle.records.proofs.Search.{when-fails, first-fails}
+use Rattle.records.proofs.Search.{nowhere≢at, when-fails, first-fails}
 use Rattle.judgement.specs.Face.{measuredIn, isWrapping, wrapping, settingIn, givenIn}
-use Rattle.judgement.specs.Judge.{allConditions, result, judge, Demand1, BandDemand}
+use Rattle.judgement.specs.Demands.{Complete, Demand1, outerPositions, holePositions, BandDemand}
+use Rattle.judgement.specs.Judge.{allConditions, result, judge}
 use Rattle.judgement.specs.Later.{laterConditions, loopIn, isOpen, openRing, oneRing, manyRings, stripPoints, longStrip}
 use Rattle.judgement.specs.Paths.{ResultLoop, signedArea, loopsFrom, wrappedLoops, uvOf, xyzOf, pathIn, resultLoops, resultIn}
 use Rattle.judgement.proofs.Each.{all-in, all-at, all-reverse, all-only}
-use Rattle.judgement.proofs.Loops.{measured-many, measured-some}
-use Rattle.judgement.proofs.Sizes.{only-few, only-none}
+use Rattle.judgement.proofs.Loops.{measured-many, measured-some, loops-wrap}
+use Rattle.judgement.proofs.Places.{place-small}
+use Rattle.judgement.proofs.Sizes.{only-none}
 use Rattle.judgement.proofs.Written.{Fine, result-fine, result-writable}
 
 compared : (s : List ℕ) → PartialEquivalence (settingIn s .same)
@@ -129,23 +134,33 @@ module _ (lent : ℕ) (s b : List ℕ) (h : judge lent s ≡ closed b) where
   unfolding resultIn resultOf
   few-corners = fine .corners
 
-  -- the loops that are read from the bytes
-  read-loops : loopPositionsOf (decode b) ≡ map (λ (l : ResultLoop). positions (l .corners)) (resultLoops s)
+  -- the loops that are read from the lent bytes, whatever stands behind the record
+  read-loops : (rest : List ℕ) → loopPositionsOf (decode (b ++ rest)) ≡ map (λ (l : ResultLoop). positions (l .corners)) (resultLoops s)
   unfolding resultIn
-  read-loops = ap loopPositionsOf (closed-read laterConditions resultIn lent s b h can-be-written) ∙ loop-positions uvOf xyzOf (pathIn s) (resultLoops s)
+  read-loops rest =
+      ap loopPositionsOf (closed-read laterConditions resultIn lent s b h can-be-written rest) ∙ loop-positions uvOf xyzOf (pathIn s) (resultLoops s)
 
--- 01, demand 1
-pub demand-1 : (lent : ℕ) (s : List ℕ) → Demand1 lent s
-demand-1 lent s = record {
-  refused-exactly = refused-exactly laterConditions result lent s;
-  closed-exactly = closed-exactly laterConditions result lent s;
-  length-is = λ b h. closed-length laterConditions resultIn lent s b h (can-be-written lent s b h);
-  fits = λ b h. closed-fits laterConditions resultIn lent s b h (can-be-written lent s b h) (few-loops lent s b h) (few-corners lent s b h);
-}
+  written : b ≡ result s
+  written = closed-exactly laterConditions result lent s b .0 h .1
 
--- the lent bytes keep their number
-pub lent-kept : (lent : ℕ) (s b : List ℕ) → judge lent s ≡ closed b → (old : List ℕ) → length old ≡ lent → length (lentAfter (closed b) old) ≡ lent
-lent-kept lent s b h = lent-stays laterConditions resultIn lent s b h (can-be-written lent s b h) (few-loops lent s b h) (few-corners lent s b h)
+  -- ---- demand 1, of a face that is closed
+
+  pub complete : (old : List ℕ) → Complete s old (length b) (b ++ drop (length b) old)
+  unfolding encode
+  complete old =
+      let rest = drop (length b) old in
+      record {
+        version-is = ap (λ (r : List ℕ). byteAt (r ++ rest) 0) written;
+        zero-is = ap (λ (r : List ℕ). byteAt (r ++ rest) 3) written;
+        read-back = closed-read laterConditions resultIn lent s b h can-be-written rest;
+        length-is = closed-length laterConditions resultIn lent s b h can-be-written rest;
+        fits = closed-fits laterConditions resultIn lent s b h can-be-written few-loops few-corners;
+        past-stays = drop-append-seam b rest;
+      }
+
+  -- the lent bytes keep their number
+  kept : (old : List ℕ) → length old ≡ lent → length (b ++ drop (length b) old) ≡ lent
+  kept = lent-stays laterConditions resultIn lent s b h can-be-written few-loops few-corners
 
 -- ---- demand 3
 
@@ -160,8 +175,7 @@ loops-of-each {B} f (a ∷ areas) (l ∷ ls) e = ap (λ (r : List B). f l ∷ r)
 
 module _ (s : List ℕ) (two : wrapping s ≡ 2) where
   some-loops : loops s ≡ 0 → ⊥
-  unfolding wrapping
-  some-loops e = let a = only-few isWrapping (measuredIn s) in let b = measured-many s in omega arith
+  some-loops e = let w = loops-wrap s in omega arith
 
   takes-wrapped : resultLoops s ≡ wrappedLoops s
   unfolding resultLoops
@@ -174,9 +188,108 @@ module _ (s : List ℕ) (two : wrapping s ≡ 2) where
       ap (λ (r : List (List Vec3)). positions (outer (settingIn s) (givenIn s)) ∷ r)
       (loops-of-each positions (map signedArea (givenIn s .holes)) (holes (settingIn s) (givenIn s)) (holes-as-many (settingIn s) (givenIn s) ∙ sym (length-map (givenIn s .holes) signedArea)))
 
--- 01, demand 3
-pub demand-3 : (lent : ℕ) (s : List ℕ) → BandDemand lent s
-demand-3 lent s b h two =
-    let read = read-loops lent s b h ∙ ap (map (λ (l : ResultLoop). positions (l .corners))) (takes-wrapped s two) ∙ wrapped-positions s two in
-    subst (λ (ls : List (List Vec3)). Demand3 (settingIn s) (givenIn s) (getD ls 0 []) (drop 1 ls)) (sym read)
-    (demand3 (settingIn s) (compared s) (givenIn s) (rings-whole lent s (passed lent s b h) two))
+-- ---- the path byte
+
+path-wraps : (s : List ℕ) → pathIn s ≡ 1 ↔ 0 < wrapping s
+unfolding pathIn
+path-wraps s = (by-path (loops s =? 0) (wrapping s =? 0) refl, takes-one)
+  where
+    chosen : Bool → Bool → ℕ
+    chosen p q = cond p 2 (cond q 0 1)
+
+    by-path : (p q : Bool) → (wrapping s =? 0) ≡ q → chosen p q ≡ 1 → 0 < wrapping s
+    by-path true q e h = absurd (omega arith)
+    by-path false true e h = absurd (omega arith)
+    by-path false false e h = let w = eqb-false (wrapping s) 0 e in omega arith
+
+    takes-one : 0 < wrapping s → chosen (loops s =? 0) (wrapping s =? 0) ≡ 1
+    takes-one h =
+        let l = loops-wrap s in
+        rw (ne-eqb (loops s) 0 (λ e. omega arith), ne-eqb (wrapping s) 0 (λ e. omega arith))
+
+-- ---- the claims about one call
+
+-- a refusal has a number
+numbered : (s : List ℕ) {p : ℕ} {cs : List Condition} → All (λ (c : Condition). 0 < c .number) cs → (row : ℕ) → getD cs row never .place s ≡ at p
+    → 0 < getD cs row never .number
+numbered s none row e = absurd (nowhere≢at e)
+numbered s (and h hs) zero e = h
+numbered s (and h hs) (suc row) e = numbered s hs row e
+
+all-numbered : (lent : ℕ) → All (λ (c : Condition). 0 < c .number) (allConditions lent)
+all-numbered lent =
+    let n : (k : ℕ) → 0 < suc k = zero-lt-suc in
+    and (n _) (and (n _) (and (n _) (and (n _) (and (n _) (and (n _) (and (n _) (and (n _) (and (n _) (and (n _) (and (n _) (and (n _) (and (n _) none))))))))))))
+
+module _ (s old : List ℕ) where
+  abbrev lent : ℕ
+  lent = length old
+
+  -- a refusal is not 0
+  pub over-zero : (n p : ℕ) → judge lent s ≡ refused n p → 0 < n
+  over-zero n p e =
+      let f = refused-exactly laterConditions result lent s n p .0 e in
+      subst (λ (m : ℕ). 0 < m) (f .numbered) (numbered s (all-numbered lent) (f .row) (f .holds))
+
+  -- 01, demand 1, for each outcome; the record is one of bytes
+  demand-1-of : getD s 2 0 < 256 → (o : Outcome) → judge lent s ≡ o → Demand1 s old (code o) (value o) (lentAfter o old)
+  demand-1-of byte (refused n p) e =
+      let some = over-zero n p e in
+      record {
+        refused-exactly = λ m q. (
+          (λ r. refused-exactly laterConditions result lent s m q .0 (e ∙ ap (λ (k : ℕ). refused k p) (r .1) ∙ ap (refused m) (r .2))),
+          (λ f. let same : refused n p ≡ refused m q = sym e ∙ refused-exactly laterConditions result lent s m q .1 f in
+              let n-is : n ≡ m = cc in
+              (omega arith, n-is, cc)),
+        );
+        closed-exactly = (
+          (λ z. absurd (omega arith)),
+          (λ none. let same : refused n p ≡ closed (result s) = sym e ∙ closed-exactly laterConditions result lent s (result s) .1 (none, refl) in
+              let z : _≡_ {A = ℕ} 0 1 = cc in
+              absurd (omega arith)),
+        );
+        refused-stays = λ h. refl;
+        refused-fits = λ h. let f = place-small lent s byte p n e in omega arith;
+        closed-complete = λ z. absurd (omega arith);
+        as-many = refl;
+      }
+  demand-1-of byte (closed b) e = record {
+    refused-exactly = λ m q. (
+      (λ r. let some = r .0 in let z = r .1 in absurd (omega arith)),
+      (λ f. let same : closed b ≡ refused m q = sym e ∙ refused-exactly laterConditions result lent s m q .1 f in
+          let z : _≡_ {A = ℕ} 0 1 = cc in
+          absurd (omega arith)),
+    );
+    closed-exactly = ((λ z. passed lent s b e), (λ none. refl));
+    refused-stays = λ h. absurd (omega arith);
+    refused-fits = λ h. absurd (omega arith);
+    closed-complete = λ z. complete lent s b e old;
+    as-many = kept lent s b e old refl;
+  }
+
+  pub demand-1 : getD s 2 0 < 256 → Demand1 s old (code (judge lent s)) (value (judge lent s)) (lentAfter (judge lent s) old)
+  demand-1 byte = demand-1-of byte (judge lent s) refl
+
+  -- 01, demand 3, of a face that is closed
+  band-of : (b : List ℕ) → judge lent s ≡ closed b → (rest : List ℕ) → wrapping s ≡ 2
+      → Demand3 (settingIn s) (givenIn s) (outerPositions (b ++ rest)) (holePositions (b ++ rest))
+  band-of b h rest two =
+      let read = read-loops lent s b h rest ∙ ap (map (λ (l : ResultLoop). positions (l .corners))) (takes-wrapped s two) ∙ wrapped-positions s two in
+      subst (λ (ls : List (List Vec3)). Demand3 (settingIn s) (givenIn s) (getD ls 0 []) (drop 1 ls)) (sym read)
+      (demand3 (settingIn s) (compared s) (givenIn s) (rings-whole lent s (passed lent s b h) two))
+
+  demand-3-of : (o : Outcome) → judge lent s ≡ o → BandDemand s (code o) (lentAfter o old)
+  unfolding encode resultIn resultOf
+  demand-3-of (refused n p) e =
+      let some = over-zero n p e in
+      record { path-is = λ z. absurd (omega arith); two-wrap = λ z. absurd (omega arith); band = λ z. absurd (omega arith) }
+  demand-3-of (closed b) e =
+      let free = passed lent s b e in
+      record {
+        path-is = λ z. subst (λ (n : ℕ). n ≡ 1 ↔ 0 < wrapping s) (sym (ap (λ (r : List ℕ). byteAt (r ++ drop (length b) old) 1) (written lent s b e))) (path-wraps s);
+        two-wrap = λ z some. two-wrap s (free 9) (free 10) (λ none. omega arith);
+        band = λ z. band-of b e (drop (length b) old);
+      }
+
+  pub demand-3 : BandDemand s (code (judge lent s)) (lentAfter (judge lent s) old)
+  demand-3 = demand-3-of (judge lent s) refl

@@ -24,7 +24,7 @@ use Rattle.records.specs.Result.{All, none, and, Fits, FitsXyz}
 use Rattle.records.proofs.Accepted.{parameters-fit, positions-fit}
 use Rattle.records.proofs.Columns.{length-counts}
 use Rattle.records.proofs.Rows.{length-rowAt}
-use Rattle.judgement.specs.Face.{surfaceIn, cornersFrom, cornersIn, loopsIn, wrapOf, measuredIn, isWrapping, givenIn}
+use Rattle.judgement.specs.Face.{surfaceIn, cornersFrom, cornersIn, loopsIn, wrapOf, measuredIn, isWrapping, wrapping, givenIn}
 use Rattle.judgement.proofs.Doubles.{FitsCorner, FitsCorners}
 use Rattle.judgement.proofs.Each.{all-getD, all-take, all-drop, all-reverse, all-map, all-only}
 use Rattle.judgement.proofs.Rings.{EachGiven}
@@ -111,6 +111,10 @@ module _ (s : List ℕ) where
   pub measured-many : length (measuredIn s) ≡ loops s
   unfolding measuredIn
   measured-many = length-map (loopsIn s) mark ∙ loops-many
+
+  pub loops-wrap : wrapping s ≤ loops s
+  unfolding wrapping
+  loops-wrap = let a = only-few isWrapping (measuredIn s) in let b = measured-many in omega arith
 
   -- a loop that wraps has points
   pub measured-some : All (λ (m : Measured Vec3). isWrapping m ≡ true → 0 < length (m .corners)) (measuredIn s)

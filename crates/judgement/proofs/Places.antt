@@ -17,12 +17,10 @@ use Rattle.records.proofs.Places.{in-row}
 use Rattle.records.proofs.Prefix.{longest, judge-prefix}
 use Rattle.records.proofs.Refused.{refused-exactly, verdict-passes, refusal-1}
 use Rattle.records.proofs.Search.{nowhere≢at}
-use Rattle.judgement.specs.Face.{measuredIn, isWrapping, wrapping}
 use Rattle.judgement.specs.Judge.{allConditions, result, judge}
 use Rattle.judgement.specs.Later.{laterConditions}
-use Rattle.judgement.proofs.Loops.{measured-many}
+use Rattle.judgement.proofs.Loops.{loops-wrap}
 use Rattle.judgement.proofs.Plain.{refusal-8, refusal-9, refusal-10, refusal-11, refusal-12}
-use Rattle.judgement.proofs.Sizes.{only-few}
 use Rattle.judgement.proofs.Strips.{strip-most}
 
 abbrev pub farthest : ℕ
@@ -52,14 +50,10 @@ module _ (lent : ℕ) (s : List ℕ) (byte : getD s 2 0 < 256) (p : ℕ) where
       none j true h = let l = ltb-true j 7 h in subst (λ (c : Condition). c .place s ≡ nowhere) (front j l) (b (suc j) (suc-le-suc l))
       none j false h = ap (λ (c : Condition). c .place s) (List·getD-eq-default recordConditions never (ltb-false j 7 h))
 
-  few-wrap : loops s ≤ 16 → wrapping s ≤ 16
-  unfolding wrapping
-  few-wrap h = let a = only-few isWrapping (measuredIn s) in let b = measured-many s in omega arith
-
   later-row : (row : ℕ) → getD laterConditions row never .place s ≡ at p → Accepted s → p ≤ farthest
   later-row zero e a = let r = refusal-8 s p .0 e in let h = r .0 in let l = a .loops-are in omega arith
   later-row (suc zero) e a = let r = refusal-9 s p .0 e in let h = r .1 .0 in let l = a .loops-are in omega arith
-  later-row (suc (suc zero)) e a = let r = refusal-10 s p .0 e in let h = r .1 in let w = few-wrap (a .loops-are) in omega arith
+  later-row (suc (suc zero)) e a = let r = refusal-10 s p .0 e in let h = r .1 in let w = loops-wrap s in let l = a .loops-are in omega arith
   later-row (suc (suc (suc zero))) e a = let r = refusal-11 s p .0 e in let h = r .1 in omega arith
   later-row (suc (suc (suc (suc zero)))) e a = let r = refusal-12 s p .0 e in let h = r .1 in let m = strip-most s a in omega arith
   later-row (suc (suc (suc (suc (suc row))))) e a = absurd (nowhere≢at e)

@@ -51,7 +51,8 @@ use Rattle.records.specs.Values.{triangle, written}
 use Rattle.judgement.specs.Face.{frameIn, surfaceOf, surfaceIn, optionsIn, senseIn, cornersFrom, cornersIn, loopsIn, measuredIn, wrapping, settingIn, givenIn}
 use Rattle.judgement.specs.Later.{loopIn, openRing, oneRing, manyRings, openSurface, stripPoints, longStrip}
 use Rattle.judgement.specs.Paths.{outerNumber, outerLoop, rephasedHole, closedLoops, loopsFrom, wrappedLoops, wholeLoop, pathIn, resultLoops, resultIn}
-use Rattle.judgement.specs.Judge.{allConditions, judge, outerPositions}
+use Rattle.judgement.specs.Judge.{allConditions, judge}
+use Rattle.judgement.specs.Demands.{outerPositions}
 
 -- ---- parts of records
 

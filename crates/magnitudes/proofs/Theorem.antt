@@ -3,11 +3,11 @@ use Prim.Native.Nat.{ℕ, _^_, _≤_}
 use mathlib.Core.Path.{_≡_, refl, sym, ap, subst}
 use mathlib.Core.Logic.{_⊎_, inl, inr}
 use mathlib.Core.Bool.{Bool, true, false, cond, not}
-use mathlib.Core.List.{List, [], _∷_}
+use mathlib.Core.List.{List, [], _∷_, _++_}
 use native.Mathlib.Omega.{arith}
 use borrow.Author.Tests.{eqb-false}
 use lib.Dec.{lit≤}
-use lib.ListN.{length}
+use lib.ListN.{length, drop}
 use lib.Ieee.{Float, nan, inf, fin, isNan}
 use Rattle.numbers.specs.Within.{Within}
 use Rattle.numbers.specs.declared.math.Vec3.{Vec3}
@@ -22,7 +22,7 @@ use Rattle.bands.specs.Corners.{Corner, Corners}
 use Rattle.bands.specs.Given.{Measured, givenOf}
 use Rattle.records.specs.Accepted.{Accepted}
 use Rattle.records.specs.Bytes.{_=?_}
-use Rattle.records.specs.Call.{closed}
+use Rattle.records.specs.Call.{Outcome, refused, closed, code, lentAfter}
 use Rattle.records.specs.Face.{loops}
 use Rattle.records.specs.Refusals.{NoneHolds}
 use Rattle.records.specs.Result.{Result, All, none, and, decode, cornersOf, resultOf}
@@ -32,7 +32,7 @@ use Rattle.judgement.specs.Face.{surfaceIn, uPeriodIn, vPeriodIn, periodLength,
 use Rattle.judgement.specs.Judge.{allConditions, judge}
 use Rattle.judgement.specs.Later.{laterConditions, stripPoints}
 use Rattle.judgement.specs.Paths.{ResultLoop, signedArea, loopsFrom, wrappedLoops, closedLoops, wholeLoop, uvOf, xyzOf, pathIn, resultLoops, resultIn}
-use Rattle.judgement.proofs.Demands.{two-wrap, strip-short, rings-whole, passed, can-be-written}
+use Rattle.judgement.proofs.Demands.{two-wrap, strip-short, rings-whole, passed, can-be-written, over-zero}
 use Rattle.judgement.proofs.Each.{all-append, all-only, all-map, all-so}
 use Rattle.judgement.proofs.Loops.{loops-many, loops-total, given-each}
 use Rattle.judgement.proofs.Sizes.{total, each-short}
@@ -131,10 +131,10 @@ result-within path h =
     let cs = all-corners h in
     record { areas = all-map Result.areaOf (λ l w. w .area) h; parameters = all-map uvOf (λ c w. record { u = w .u; v = w .v }) cs; positions = all-map xyzOf (λ c w. w .at) cs }
 
-bytes-within : (lent : ℕ) (s b : List ℕ) → judge lent s ≡ closed b → EachReal (Within (2 ^ 54)) (Within (2 ^ 22)) (Within (2 ^ 32)) (decode b)
+bytes-within : (lent : ℕ) (s b : List ℕ) → judge lent s ≡ closed b → (rest : List ℕ) → EachReal (Within (2 ^ 54)) (Within (2 ^ 22)) (Within (2 ^ 32)) (decode (b ++ rest))
 unfolding resultIn
-bytes-within lent s b h =
-    subst (EachReal (Within (2 ^ 54)) (Within (2 ^ 22)) (Within (2 ^ 32))) (sym (closed-read laterConditions resultIn lent s b h (can-be-written lent s b h)))
+bytes-within lent s b h rest =
+    subst (EachReal (Within (2 ^ 54)) (Within (2 ^ 22)) (Within (2 ^ 32))) (sym (closed-read laterConditions resultIn lent s b h (can-be-written lent s b h) rest))
     (result-within (pathIn s) (loops-of-result s (closed-accepted laterConditions resultIn lent s b h) lent (passed lent s b h)))
 
 -- what follows of each real from its own bound
@@ -151,9 +151,26 @@ within-number B nan w = absurd w
 within-number B (inf s) w = refl
 within-number B (fin s m e) w = refl
 
-pub result-bounded : (lent : ℕ) (s : List ℕ) → ResultBounded lent s
-result-bounded lent s = record {
-  bounded = λ b h. each-so (λ x. within-more (2 ^ 54) (10 ^ 24) x (lit≤ tt)) (λ x. within-more (2 ^ 22) (10 ^ 24) x (lit≤ tt)) (λ x. within-more (2 ^ 32) (10 ^ 24) x (lit≤ tt)) (decode b) (bytes-within lent s b h);
-  narrow = λ b h. each-so (λ x. within-more (2 ^ 54) mostArea x (lit≤ tt)) (λ x. within-more (2 ^ 22) mostParameter x (lit≤ tt)) (λ x. within-more (2 ^ 32) mostCoordinate x (lit≤ tt)) (decode b) (bytes-within lent s b h);
-  numbers = λ b h. each-so (within-number (2 ^ 54)) (within-number (2 ^ 22)) (within-number (2 ^ 32)) (decode b) (bytes-within lent s b h);
-}
+more : (m n : ℕ) → m ≤ n → (x : Float) → Within m x → Within n x
+more m n h x = within-more m n x h
+
+-- the bounds of each real of the lent bytes, from which those that are claimed follow
+module _ (s old : List ℕ) where
+  abbrev lent : ℕ
+  lent = length old
+
+  bounded-of : (o : Outcome) → judge lent s ≡ o → ResultBounded (code o) (lentAfter o old)
+  bounded-of (refused n p) e =
+      let some = over-zero s old n p e in
+      record { bounded = λ z. absurd (omega arith); narrow = λ z. absurd (omega arith); numbers = λ z. absurd (omega arith) }
+  bounded-of (closed b) e =
+      let new = b ++ drop (length b) old in
+      let each = bytes-within lent s b e (drop (length b) old) in
+      record {
+        bounded = λ z. each-so (more (2 ^ 54) (10 ^ 24) (lit≤ tt)) (more (2 ^ 22) (10 ^ 24) (lit≤ tt)) (more (2 ^ 32) (10 ^ 24) (lit≤ tt)) (decode new) each;
+        narrow = λ z. each-so (more (2 ^ 54) mostArea (lit≤ tt)) (more (2 ^ 22) mostParameter (lit≤ tt)) (more (2 ^ 32) mostCoordinate (lit≤ tt)) (decode new) each;
+        numbers = λ z. each-so (within-number (2 ^ 54)) (within-number (2 ^ 22)) (within-number (2 ^ 32)) (decode new) each;
+      }
+
+  pub result-bounded : ResultBounded (code (judge lent s)) (lentAfter (judge lent s) old)
+  result-bounded = bounded-of (judge lent s) refl

@@ -1,14 +1,12 @@
--- How large the reals of a result can be: what is claimed of the bytes of every face that the call closes. `Within B x` says that x is finite and at most B
--- in size, so it rules out a NaN, an infinity and a number over B at once.
+-- How large the reals of a result can be: what is claimed of the lent bytes after a call that closed its face, read back by the reader of result records.
+-- `Within B x` says that x is finite and at most B in size, so it rules out a NaN, an infinity and a number over B at once.
 use Prim.Native.Nat.{ℕ, _^_}
 use mathlib.Core.Path.{_≡_}
 use mathlib.Core.Bool.{false}
 use mathlib.Core.List.{List}
 use lib.Ieee.{Float, isNan}
 use Rattle.numbers.specs.Within.{Within, EachUv, EachXyz}
-use Rattle.records.specs.Call.{closed}
 use Rattle.records.specs.Result.{Result, All, decode}
-use Rattle.judgement.specs.Judge.{judge}
 
 -- what holds of every area, of every parameter and of every coordinate of a result
 pub record EachReal (area parameter coordinate : Float → Type 0) (r : Result) : Type 0 where
@@ -40,8 +38,8 @@ IsNumber x = isNan x ≡ false
 abbrev pub Numbers : List ℕ → Type 0
 Numbers b = EachReal IsNumber IsNumber IsNumber (decode b)
 
--- of every face that is closed
-pub record ResultBounded (lent : ℕ) (s : List ℕ) : Type 0 where
-  pub bounded : (b : List ℕ) → judge lent s ≡ closed b → Bounded b
-  pub narrow : (b : List ℕ) → judge lent s ≡ closed b → Narrow b
-  pub numbers : (b : List ℕ) → judge lent s ≡ closed b → Numbers b
+-- of the lent bytes after a call that closed its face
+pub record ResultBounded (code : ℕ) (new : List ℕ) : Type 0 where
+  pub bounded : code ≡ 0 → Bounded new
+  pub narrow : code ≡ 0 → Narrow new
+  pub numbers : code ≡ 0 → Numbers new

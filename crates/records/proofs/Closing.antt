@@ -1,7 +1,7 @@
 -- What holds of every face that the call closes, whatever the conditions after 7 and the face that it makes: the record is as described, enough bytes were
 -- lent, the bytes are read as that face, their length, and that the lent bytes keep their number.
 use mathlib.Core.Path.{_≡_, refl, sym, ap, _∙_}
-use mathlib.Core.List.{List, [], _∷_, _++_, append-nil}
+use mathlib.Core.List.{List, [], _∷_, _++_}
 use Prim.Native.Nat.{ℕ, zero, suc, _+_, _*_, _≤_, _<_}
 use native.Mathlib.Omega.{arith}
 use lib.ListN.{length, drop, length-append, length-drop}
@@ -40,12 +40,13 @@ module _ (more : List Condition) (face : List ℕ → Result) (lent : ℕ) (s b 
   closed-accepted = accepted-exactly s .0 (verdict-passes s recordConditions .1 (front-none recordConditions more s (λ j. none (suc j))))
 
   module _ (w : Writable (face s)) where
-    pub closed-read : decode b ≡ face s
-    closed-read = rw (closed-is, ← append-nil (encode (face s))) (decode-encode (face s) w [])
+    -- read from the lent bytes, whatever stands behind the record
+    pub closed-read : (rest : List ℕ) → decode (b ++ rest) ≡ face s
+    closed-read rest = rw closed-is (decode-encode (face s) w rest)
 
-    -- the length, with the holes and the counts read from the bytes
-    pub closed-length : length b ≡ resultLength (holesIn b) (cornersIn b)
-    closed-length = rw closed-is (rw append-nil at (length-read (face s) w []))
+    -- the length, with the holes and the counts read from those bytes
+    pub closed-length : (rest : List ℕ) → length b ≡ resultLength (holesIn (b ++ rest)) (cornersIn (b ++ rest))
+    closed-length rest = rw closed-is (length-read (face s) w rest)
 
     module _ (few : length (face s .counts) ≤ maxLoops + 1) (corners : sum (face s .counts) ≤ maxStrip + maxPoints) where
       pub closed-fits : length b ≤ resultBytes

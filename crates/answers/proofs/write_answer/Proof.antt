@@ -24,7 +24,7 @@ returns : tie.Need-returns
 returns c =
     let given = c .before .before .before .before .before .before .before .before .before .args in
     let call = c .before .before .before .before .before .close-face .ensures in
-    let f = closed-front (judge (length (given .out .now)) (given .face .now)) (call .0) (given .out .now) (call .1) (c .before .answer .given .1) (search needs) in
+    let f = closed-front (judge (length (given .out .now)) (given .face .now)) (call .0) (given .out .now) (call .1 .0) (c .before .answer .given .1) (search needs) in
     (f .0, λ h. f .1)
 
 same-length-2 : tie.Need-same-length-2

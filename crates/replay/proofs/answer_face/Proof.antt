@@ -23,14 +23,14 @@ slice-reshare-prefix-write-stored : tie.Need-slice-reshare-prefix-write-stored
 slice-reshare-prefix-write-stored c =
     let old = c .before .before .before .before .before .before .before .before .before .before .before .paint .last .0 in
     let call = c .before .before .before .before .before .before .before .close-face .ensures in
-    let f = closed-front (judge (length old) (c .before .before .before .before .before .before .before .before .before .before .before .before .before .before .before .args .face .now)) (call .0) old (call .1) (c .before .before .before .answer .given .1) (search needs) in
+    let f = closed-front (judge (length old) (c .before .before .before .before .before .before .before .before .before .before .before .before .before .before .before .args .face .now)) (call .0) old (call .1 .0) (c .before .before .before .answer .given .1) (search needs) in
     f .0
 
 slice-aggregate-write-stored : tie.Need-slice-aggregate-write-stored
 slice-aggregate-write-stored c =
     let old = c .before .before .before .before .before .before .before .before .before .before .before .before .paint .last .0 in
     let call = c .before .before .before .before .before .before .before .before .close-face .ensures in
-    let f = closed-front (judge (length old) (c .before .before .before .before .before .before .before .before .before .before .before .before .before .before .before .before .args .face .now)) (call .0) old (call .1) (c .before .before .before .before .answer .given .1) (search needs) in
+    let f = closed-front (judge (length old) (c .before .before .before .before .before .before .before .before .before .before .before .before .before .before .before .before .args .face .now)) (call .0) old (call .1 .0) (c .before .before .before .before .answer .given .1) (search needs) in
     sym (length-take-le _ _ (f .0))
 
 write-stored-requires : tie.Need-write-stored-requires

@@ -1,8 +1,7 @@
-use mathlib.Core.Path.{_∙_}
 use denote.Ref.{now}
 use lib.ListN.{length}
 use Rattle.judgement.specs.Judge.{judge}
-use Rattle.closer.proofs.Numbers.{code-is, value-is}
+use Rattle.closer.proofs.Call.{paired}
 use borrow.Author.Needs.{needs}
 use Rattle.closer.proofs.entry.closer_close_face.Statement.{statement}
 use Rattle.closer.proofs.entry.closer_close_face.Tie as tie
@@ -21,8 +20,9 @@ same-length c = search needs
 
 returns : tie.Need-returns
 returns c =
-    let o = judge (length (now (c .before .before .before .before .before .before .before .before .args .result))) (now (c .before .before .before .before .before .before .before .before .args .«record»)) in
-    (c .code-of .ensures ∙ code-is o _ (c .before .before .before .before .close-face .ensures .0), (c .before .value-of .ensures ∙ value-is o _ (c .before .before .before .before .close-face .ensures .0), c .before .before .before .before .close-face .ensures .1))
+    let given = c .before .before .before .before .before .before .before .before .args in
+    let call = c .before .before .before .before .close-face .ensures in
+    paired (judge (length (now (given .result))) (now (given .«record»))) _ _ (c .code-of .ensures) (c .before .value-of .ensures) call
 
 pub closer-close-face-spec : {M : Type 1} → statement M
 closer-close-face-spec =

@@ -1,4 +1,4 @@
--- An answer as two numbers, for a caller in C.
+-- An answer as the pair of numbers that 01 names.
 use Prim.Native.Nat.{ℕ}
 use Rattle.paths.specs.declared.answer.Answer.{Answer}
 use Rattle.paths.specs.declared.answer.Answer.the-variants.{Closed, Refused}

@@ -1,0 +1,64 @@
+-- The demands 1 and 3, as claims about one call: the face record s, the lent bytes before the call (old) and after it (new), and the pair that it returns.
+-- "The call returns 0 and the length", or the refusal and its place: the code and the value.
+use Prim.Native.Nat.{ℕ, _^_, _≤_, _<_}
+use mathlib.Core.Path.{_≡_}
+use mathlib.Core.Logic.{_↔_}
+use mathlib.Core.List.{List, []}
+use lib.ListN.{length, getD, drop}
+use Rattle.numbers.specs.declared.math.Vec3.{Vec3}
+use Rattle.bands.specs.Demand.{Demand3}
+use Rattle.records.specs.Bytes.{byteAt}
+use Rattle.records.specs.Limits.{resultBytes}
+use Rattle.records.specs.Refusals.{FirstToHold, NoneHolds}
+use Rattle.records.specs.Result.{decode, resultLength, holesIn, cornersIn, loopPositionsOf}
+use Rattle.judgement.specs.Face.{wrapping, settingIn, givenIn}
+use Rattle.judgement.specs.Judge.{allConditions}
+use Rattle.judgement.specs.Paths.{resultIn}
+
+-- ---- demand 1
+
+-- The front of the lent bytes is the complete result record of the face, n bytes long.
+pub record Complete (s old : List ℕ) (n : ℕ) (new : List ℕ) : Type 0 where
+  -- "byte 0 version (1) .. byte 3 zero"
+  pub version-is : byteAt new 0 ≡ 1
+  pub zero-is : byteAt new 3 ≡ 0
+  -- all else, read back by the reader of result records, is what the three paths make of the face
+  pub read-back : decode new ≡ resultIn s
+  -- "of a length known from its sizes": the holes and the counts that are read from the bytes
+  pub length-is : n ≡ resultLength (holesIn new) (cornersIn new)
+  pub fits : n ≤ resultBytes
+  -- "Bytes past that length keep their values."
+  pub past-stays : drop n new ≡ drop n old
+
+-- refusal n with place p is returned
+abbrev pub Refuses : ℕ → ℕ → ℕ → ℕ → Type 0
+Refuses code value n p = (0 < n) × (code ≡ n) × (value ≡ p)
+
+-- "A face record within the limits, with enough result bytes lent, gets a complete result record, of a length known from its sizes. Every other call gets
+-- one numbered refusal with its place, under the published order of checks, and the lent bytes keep their old values."
+pub record Demand1 (s old : List ℕ) (code value : ℕ) (new : List ℕ) : Type 0 where
+  -- "A refusal is given on its condition and on no other": the first condition of the list that holds, with its place
+  pub refused-exactly : (n p : ℕ) → Refuses code value n p ↔ FirstToHold (allConditions (length old)) s n p
+  -- the face is closed exactly where none of them holds
+  pub closed-exactly : code ≡ 0 ↔ NoneHolds (allConditions (length old)) s
+  -- a refusal "writes nothing", and its place fits the four bytes in which the program `close` gives it
+  pub refused-stays : 0 < code → new ≡ old
+  pub refused-fits : 0 < code → value < 2 ^ 32
+  pub closed-complete : code ≡ 0 → Complete s old value new
+  pub as-many : length new ≡ length old
+
+-- ---- demand 3
+
+-- the positions that are read from the bytes of a result record: those of the outer loop, and those of the holes
+abbrev pub outerPositions : List ℕ → List Vec3
+outerPositions b = getD (loopPositionsOf (decode b)) 0 []
+
+abbrev pub holePositions : List ℕ → List (List Vec3)
+holePositions b = drop 1 (loopPositionsOf (decode b))
+
+pub record BandDemand (s : List ℕ) (code : ℕ) (new : List ℕ) : Type 0 where
+  -- "byte 1 path (0 closed, 1 wrapped, 2 whole surface)": of a face that is closed it is 1 exactly where loops wrap, and those are two
+  pub path-is : code ≡ 0 → (byteAt new 1 ≡ 1 ↔ 0 < wrapping s)
+  pub two-wrap : code ≡ 0 → 0 < wrapping s → wrapping s ≡ 2
+  -- "Demand 3 is a single claim about a returned band and its strip": of every face that is closed and of which two loops wrap
+  pub band : code ≡ 0 → wrapping s ≡ 2 → Demand3 (settingIn s) (givenIn s) (outerPositions new) (holePositions new)
