@@ -13,10 +13,10 @@ use verdict::Verdict;
 use verdict::check_record;
 
 pub mod entry;
-pub mod measured;
-pub mod record;
-pub mod rings;
-pub mod verdict;
+mod measured;
+mod record;
+mod rings;
+mod verdict;
 
 // The face record is closed into the front of the lent bytes, or refused; refused, the lent bytes
 // keep their values. The first two clauses say what is returned and what the lent bytes are then, by
