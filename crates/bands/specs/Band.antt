@@ -3,7 +3,7 @@ use mathlib.Core.Bool.{Bool, cond, not, _&&_, _||_}
 use mathlib.Core.List.{List, map}
 use lib.Ieee.{Float, lt}
 use Rattle.numbers.specs.Rounded.{_⊕_}
-use Rattle.loops.specs.Repeats.{dropMerging, dropRepeats}
+use Rattle.loops.specs.Repeats.{dropRepeats}
 use Rattle.loops.specs.Mean.{meanOf}
 use Rattle.bands.specs.Corners.{Corner, Corners, vs, moveV}
 use Rattle.bands.specs.Given.{Loop, Given}
@@ -34,7 +34,7 @@ module _ {A : Type 0} where
   meanV r = meanOf (vs r)
 
 module _ {A : Type 0} (S : Setting A) where
-  -- whether a loop goes with the face: u rising, or falling where the face's sense is not the surface's
+  -- whether a loop goes with the face: u rising, or falling where the face's sense is not the surface's; that the sense enters is the Rust's
   abbrev pub goesWith : Loop A → Bool
   goesWith l = cond (S .sense) (not (l .falls)) (l .falls)
 

@@ -1,4 +1,4 @@
--- Demand 3, of a band as it is defined: the words of 01, "Bands", last paragraph.
+-- Demand 3, of the positions of an outer loop and of holes, for the rings and holes given: the words of 01, "Bands", last paragraph.
 use Prim.Native.Nat.{ℕ, _<_}
 use mathlib.Core.Path.{_≡_}
 use mathlib.Core.Logic.{_⊎_}
@@ -34,7 +34,7 @@ pub record Whole {A : Type 0} (S : Setting A) (given : Given A) : Type 0 where
 
 -- the claim, of the positions of the outer loop and of the holes
 pub record Demand3 {A : Type 0} (S : Setting A) (given : Given A) (outer : List A) (holes : List (List A)) : Type 0 where
-  -- the rings as the strip takes them
+  -- the rings as the strip takes them; what ties them to the record stands at the end
   pub l : Corner A
   pub L : Corners A
   pub lower-is : lowerRing S given ≡ l ∷ L
@@ -44,12 +44,14 @@ pub record Demand3 {A : Type 0} (S : Setting A) (given : Given A) (outer : List 
   -- "A wall is a stretch of the strip between the two rings, the surface points at the inner rungs named above", at the lower ring's first u
   pub W : List A
   pub wall-is : W ≡ map (S .pointAt (l .u)) (heights (S .rungs) (S .steps) (l .v) (u .v))
-  -- "The second wall is the first read backward, to the bit."
+  -- "The second wall is the first read backward, to the bit." Each ring's first position stands once more beside the first wall, as in the Rust's
+  -- `close_strip`: it is the ring's and no part of the wall, and it counts among the points of refusal 12. `outer-is` ties the strip to the result.
   pub strip-is : positions (stripOf S given) ≡ positions (l ∷ L) ++ (l .at ∷ W) ++ (u .at ∷ reverse (positions (u ∷ U))) ++ reverse W
   pub outer-is : outer ≡ dropRepeats (S .same) (positions (stripOf S given))
   -- "A hole is a loop that does not wrap; each is in the result once, its given positions unchanged to the bit and in file order."
   pub holes-are : holes ≡ map positions (given .holes)
-  -- where no hole lies across the seam: the rings are those given, and the counts are theirs
+  -- where no hole lies across the seam: the rings are those given, as they are or begun at another of their points, and the counts are theirs. Of rings
+  -- that are cut anew for a hole across it nothing more is claimed.
   pub lower-turned : acrossSeam (S .period) (laid (S .period) given) ≡ false → Turn (ring (lower S given)) (positions (l ∷ L))
   pub upper-turned : acrossSeam (S .period) (laid (S .period) given) ≡ false → Turn (ring (upper S given)) (positions (u ∷ U))
   pub counts : acrossSeam (S .period) (laid (S .period) given) ≡ false → (a b : A)

@@ -39,7 +39,8 @@ module _ {A : Type 0} where
   abbrev pub loopOf : Measured A → Loop A
   loopOf m = record { corners = m .corners; falls = falls (m .wrap) }
 
-  -- "Rings are taken last wrapping loop first"; a hole is a loop that does not wrap. There are two rings.
+  -- "Rings are taken last wrapping loop first"; a hole is a loop that does not wrap. It is asked of loops of which two wrap; a ring that is not
+  -- there would be empty.
   unfoldable pub givenOf : List (Measured A) → Given A
   givenOf loops =
       let rings = reverse (only (λ (m : Measured A). wraps (m .wrap)) loops) in
