@@ -1,4 +1,4 @@
-// The call for C: the refusal, or 0, is the result; its place, or the record's length, is stored.
+// The call for C: the refusal, or 0, is the result; its place, or the result record's length, is stored.
 ghost use mathlib.Core.Path.{_≡_};
 ghost use lib.ListN.{length};
 ghost use Rattle.records.specs.Call.{code, value as valueIn, lentAfter};
@@ -27,7 +27,8 @@ fn value_of(answer: Answer) -> usize
     }
 }
 
-// What `close_face` says of its answer is said here of the pair.
+// What `close_face` says of its answer is said here of the pair. A caller in C lends three pieces of
+// memory that do not overlap, of the lengths given (include/closer.h).
 #[no_mangle]
 pub extern "C" fn closer_close_face(record: &[u8], result: &mut [u8], value: &mut usize) -> u32
     ensures { λ r. ⌜ r ≡ code (judge (length (now (result .entry))) (now («record» .entry))) ⌝ }

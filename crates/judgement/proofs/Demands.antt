@@ -6,7 +6,7 @@ use mathlib.Core.List.{List, [], _∷_, _++_, map, reverse}
 use mathlib.Core.Logic.{_↔_}
 use native.Mathlib.Nat.{zero-lt-suc}
 use native.Mathlib.Omega.{arith}
-use lib.ListN.{length, getD, drop, length-map, length-reverse}
+use lib.ListN.{length, getD, drop, length-append, length-map, length-reverse}
 use lib.Seq.{drop-append-seam}
 use lib.Ieee.{Float}
 use lib.IntN.{pos}
@@ -38,7 +38,7 @@ use Rattle.judgement.specs.Judge.{allConditions, result, judge}
 use Rattle.judgement.specs.Later.{laterConditions, loopIn, isOpen, openRing, oneRing, manyRings, stripPoints, longStrip}
 use Rattle.judgement.specs.Paths.{ResultLoop, signedArea, loopsFrom, wrappedLoops, uvOf, xyzOf, pathIn, resultLoops, resultIn}
 use Rattle.judgement.proofs.Each.{all-in, all-at, all-reverse, all-only}
-use Rattle.judgement.proofs.Loops.{measured-many, measured-some, loops-wrap}
+use Rattle.judgement.proofs.Loops.{measured-many, loops-positions, measured-some, loops-wrap}
 use Rattle.judgement.proofs.Places.{place-small}
 use Rattle.judgement.proofs.Sizes.{only-none}
 use Rattle.judgement.proofs.Written.{Fine, result-fine, result-writable}
@@ -154,6 +154,7 @@ module _ (lent : ℕ) (s b : List ℕ) (h : judge lent s ≡ closed b) where
         zero-is = ap (λ (r : List ℕ). byteAt (r ++ rest) 3) written;
         read-back = closed-read laterConditions resultIn lent s b h can-be-written rest;
         length-is = closed-length laterConditions resultIn lent s b h can-be-written rest;
+        inside = (let n = length-append b rest in omega arith);
         fits = closed-fits laterConditions resultIn lent s b h can-be-written few-loops few-corners;
         past-stays = drop-append-seam b rest;
       }
@@ -187,6 +188,10 @@ module _ (s : List ℕ) (two : wrapping s ≡ 2) where
   wrapped-positions =
       ap (λ (r : List (List Vec3)). positions (outer (settingIn s) (givenIn s)) ∷ r)
       (loops-of-each positions (map signedArea (givenIn s .holes)) (holes (settingIn s) (givenIn s)) (holes-as-many (settingIn s) (givenIn s) ∙ sym (length-map (givenIn s .holes) signedArea)))
+
+same-set : (s : List ℕ) → settingIn s .same ≡ same
+unfolding settingIn
+same-set s = refl
 
 -- ---- the path byte
 
@@ -237,10 +242,10 @@ module _ (s old : List ℕ) where
       let some = over-zero n p e in
       record {
         refused-exactly = λ m q. (
-          (λ r. refused-exactly laterConditions result lent s m q .0 (e ∙ ap (λ (k : ℕ). refused k p) (r .1) ∙ ap (refused m) (r .2))),
+          (λ r. refused-exactly laterConditions result lent s m q .0 (e ∙ ap (λ (k : ℕ). refused k p) (r .code-is) ∙ ap (refused m) (r .value-is))),
           (λ f. let same : refused n p ≡ refused m q = sym e ∙ refused-exactly laterConditions result lent s m q .1 f in
               let n-is : n ≡ m = cc in
-              (omega arith, n-is, cc)),
+              record { not-closed = omega arith; code-is = n-is; value-is = cc }),
         );
         closed-exactly = (
           (λ z. absurd (omega arith)),
@@ -255,7 +260,7 @@ module _ (s old : List ℕ) where
       }
   demand-1-of byte (closed b) e = record {
     refused-exactly = λ m q. (
-      (λ r. let some = r .0 in let z = r .1 in absurd (omega arith)),
+      (λ r. absurd (omega arith)),
       (λ f. let same : closed b ≡ refused m q = sym e ∙ refused-exactly laterConditions result lent s m q .1 f in
           let z : _≡_ {A = ℕ} 0 1 = cc in
           absurd (omega arith)),
@@ -282,10 +287,18 @@ module _ (s old : List ℕ) where
   unfolding encode resultIn resultOf
   demand-3-of (refused n p) e =
       let some = over-zero n p e in
-      record { path-is = λ z. absurd (omega arith); two-wrap = λ z. absurd (omega arith); band = λ z. absurd (omega arith) }
+      record {
+        all-given = loops-positions s;
+        same-is = same-set s;
+        path-is = λ z. absurd (omega arith);
+        two-wrap = λ z. absurd (omega arith);
+        band = λ z. absurd (omega arith);
+      }
   demand-3-of (closed b) e =
       let free = passed lent s b e in
       record {
+        all-given = loops-positions s;
+        same-is = same-set s;
         path-is = λ z. subst (λ (n : ℕ). n ≡ 1 ↔ 0 < wrapping s) (sym (ap (λ (r : List ℕ). byteAt (r ++ drop (length b) old) 1) (written lent s b e))) (path-wraps s);
         two-wrap = λ z some. two-wrap s (free 9) (free 10) (λ none. omega arith);
         band = λ z. band-of b e (drop (length b) old);

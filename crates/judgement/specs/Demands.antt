@@ -1,17 +1,20 @@
--- The demands 1 and 3, as claims about one call: the face record s, the lent bytes before the call (old) and after it (new), and the pair that it returns.
--- "The call returns 0 and the length", or the refusal and its place: the code and the value.
+-- The demands 1 and 3, as claims about one call: the face record s, the lent bytes before the call (old) and after it (new), and the pair that it returns,
+-- code and value. 01: "The call returns 0 and the length", or the refusal and its place.
 use Prim.Native.Nat.{ℕ, _^_, _≤_, _<_}
 use mathlib.Core.Path.{_≡_}
 use mathlib.Core.Logic.{_↔_}
-use mathlib.Core.List.{List, []}
+use mathlib.Core.List.{List, [], map}
 use lib.ListN.{length, getD, drop}
+use Rattle.numbers.specs.Position.{same}
 use Rattle.numbers.specs.declared.math.Vec3.{Vec3}
+use Rattle.bands.specs.Corners.{positions}
 use Rattle.bands.specs.Demand.{Demand3}
 use Rattle.records.specs.Bytes.{byteAt}
+use Rattle.records.specs.Face.{loopPositions}
 use Rattle.records.specs.Limits.{resultBytes}
 use Rattle.records.specs.Refusals.{FirstToHold, NoneHolds}
 use Rattle.records.specs.Result.{decode, resultLength, holesIn, cornersIn, loopPositionsOf}
-use Rattle.judgement.specs.Face.{wrapping, settingIn, givenIn}
+use Rattle.judgement.specs.Face.{loopsIn, wrapping, settingIn, givenIn}
 use Rattle.judgement.specs.Judge.{allConditions}
 use Rattle.judgement.specs.Paths.{resultIn}
 
@@ -26,16 +29,20 @@ pub record Complete (s old : List ℕ) (n : ℕ) (new : List ℕ) : Type 0 where
   pub read-back : decode new ≡ resultIn s
   -- "of a length known from its sizes": the holes and the counts that are read from the bytes
   pub length-is : n ≡ resultLength (holesIn new) (cornersIn new)
+  -- the record lies within the lent bytes, and the 61,614 of refusal 1 are always enough
+  pub inside : n ≤ length new
   pub fits : n ≤ resultBytes
   -- "Bytes past that length keep their values."
   pub past-stays : drop n new ≡ drop n old
 
--- refusal n with place p is returned
-abbrev pub Refuses : ℕ → ℕ → ℕ → ℕ → Type 0
-Refuses code value n p = (0 < n) × (code ≡ n) × (value ≡ p)
+-- refusal n with place p is what is returned
+pub record Refuses (code value n p : ℕ) : Type 0 where
+  pub not-closed : 0 < n
+  pub code-is : code ≡ n
+  pub value-is : value ≡ p
 
--- "A face record within the limits, with enough result bytes lent, gets a complete result record, of a length known from its sizes. Every other call gets
--- one numbered refusal with its place, under the published order of checks, and the lent bytes keep their old values."
+-- A face record within the limits, with enough result bytes lent, gets a complete result record, of a length known from its sizes. Every other call gets
+-- one numbered refusal with its place, under the published order of checks, and the lent bytes keep their old values.
 pub record Demand1 (s old : List ℕ) (code value : ℕ) (new : List ℕ) : Type 0 where
   -- "A refusal is given on its condition and on no other": the first condition of the list that holds, with its place
   pub refused-exactly : (n p : ℕ) → Refuses code value n p ↔ FirstToHold (allConditions (length old)) s n p
@@ -56,7 +63,12 @@ outerPositions b = getD (loopPositionsOf (decode b)) 0 []
 abbrev pub holePositions : List ℕ → List (List Vec3)
 holePositions b = drop 1 (loopPositionsOf (decode b))
 
+-- The rings and holes of s are those of `givenIn`; how they and the strip are compared and worked out is `settingIn`.
 pub record BandDemand (s : List ℕ) (code : ℕ) (new : List ℕ) : Type 0 where
+  -- "all positions that the face record gives": none is lost where corners are made of parameters and positions
+  pub all-given : map positions (loopsIn s) ≡ loopPositions s
+  -- "Step counts take two positions as one when their coordinates are equal as numbers."
+  pub same-is : settingIn s .same ≡ same
   -- "byte 1 path (0 closed, 1 wrapped, 2 whole surface)": of a face that is closed it is 1 exactly where loops wrap, and those are two
   pub path-is : code ≡ 0 → (byteAt new 1 ≡ 1 ↔ 0 < wrapping s)
   pub two-wrap : code ≡ 0 → 0 < wrapping s → wrapping s ≡ 2

@@ -8,7 +8,7 @@ use Rattle.records.specs.Result.{encode}
 use Rattle.judgement.specs.Later.{laterConditions}
 use Rattle.judgement.specs.Paths.{resultIn}
 
--- the refusals 1 to 12 where so many result bytes are lent
+-- the conditions of the refusals 1 to 12, in the order in which they are tested, where so many result bytes are lent
 abbrev pub allConditions : ℕ → List Condition
 allConditions lent = conditions lent ++ laterConditions
 
@@ -16,6 +16,6 @@ allConditions lent = conditions lent ++ laterConditions
 abbrev pub result : List ℕ → List ℕ
 result s = encode (resultIn s)
 
--- so many result bytes are lent, and the record is given
+-- what a call comes to that is given the face record s and lent so many result bytes
 abbrev pub judge : ℕ → List ℕ → Outcome
 judge lent s = Call.judge laterConditions result lent s

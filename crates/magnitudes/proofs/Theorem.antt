@@ -8,7 +8,7 @@ use native.Mathlib.Omega.{arith}
 use borrow.Author.Tests.{eqb-false}
 use lib.Dec.{lit≤}
 use lib.ListN.{length, drop}
-use lib.Ieee.{Float, nan, inf, fin, isNan}
+use lib.Ieee.{Float}
 use Rattle.numbers.specs.Within.{Within}
 use Rattle.numbers.specs.declared.math.Vec3.{Vec3}
 use Rattle.numbers.proofs.Magnitude.{within-more}
@@ -37,7 +37,7 @@ use Rattle.judgement.proofs.Each.{all-append, all-only, all-map, all-so}
 use Rattle.judgement.proofs.Loops.{loops-many, loops-total, given-each}
 use Rattle.judgement.proofs.Sizes.{total, each-short}
 use Rattle.judgement.proofs.Strips.{High, lower-low, upper-high}
-use Rattle.magnitudes.specs.Bounded.{EachReal, mostArea, mostParameter, mostCoordinate, IsNumber, ResultBounded}
+use Rattle.magnitudes.specs.Bounded.{EachReal, mostArea, mostParameter, mostCoordinate, ResultBounded}
 use Rattle.magnitudes.proofs.Bands.{both, curved, outer-sized, holes-sized}
 use Rattle.magnitudes.proofs.Closed.{SizedCorners, SizedLoop, GivenLoop, Round, area-sized, with-area-sized, given-sized, closed-sized}
 use Rattle.magnitudes.proofs.Record.{either-u, either-v, frame-framed, sizes-in, loops-sized, loops-near, loops-some}
@@ -145,12 +145,6 @@ each-so a p x r h = record {
   positions = all-so (λ c w. record { x = x (c .x) (w .x); y = x (c .y) (w .y); z = x (c .z) (w .z) }) (h .positions);
 }
 
-within-number : (B : ℕ) (x : Float) → Within B x → IsNumber x
-unfolding isNan
-within-number B nan w = absurd w
-within-number B (inf s) w = refl
-within-number B (fin s m e) w = refl
-
 more : (m n : ℕ) → m ≤ n → (x : Float) → Within m x → Within n x
 more m n h x = within-more m n x h
 
@@ -162,14 +156,13 @@ module _ (s old : List ℕ) where
   bounded-of : (o : Outcome) → judge lent s ≡ o → ResultBounded (code o) (lentAfter o old)
   bounded-of (refused n p) e =
       let some = over-zero s old n p e in
-      record { bounded = λ z. absurd (omega arith); narrow = λ z. absurd (omega arith); numbers = λ z. absurd (omega arith) }
+      record { bounded = λ z. absurd (omega arith); narrow = λ z. absurd (omega arith) }
   bounded-of (closed b) e =
       let new = b ++ drop (length b) old in
       let each = bytes-within lent s b e (drop (length b) old) in
       record {
         bounded = λ z. each-so (more (2 ^ 54) (10 ^ 24) (lit≤ tt)) (more (2 ^ 22) (10 ^ 24) (lit≤ tt)) (more (2 ^ 32) (10 ^ 24) (lit≤ tt)) (decode new) each;
         narrow = λ z. each-so (more (2 ^ 54) mostArea (lit≤ tt)) (more (2 ^ 22) mostParameter (lit≤ tt)) (more (2 ^ 32) mostCoordinate (lit≤ tt)) (decode new) each;
-        numbers = λ z. each-so (within-number (2 ^ 54)) (within-number (2 ^ 22)) (within-number (2 ^ 32)) (decode new) each;
       }
 
   pub result-bounded : ResultBounded (code (judge lent s)) (lentAfter (judge lent s) old)

@@ -2,9 +2,8 @@
 -- `Within B x` says that x is finite and at most B in size, so it rules out a NaN, an infinity and a number over B at once.
 use Prim.Native.Nat.{ℕ, _^_}
 use mathlib.Core.Path.{_≡_}
-use mathlib.Core.Bool.{false}
 use mathlib.Core.List.{List}
-use lib.Ieee.{Float, isNan}
+use lib.Ieee.{Float}
 use Rattle.numbers.specs.Within.{Within, EachUv, EachXyz}
 use Rattle.records.specs.Result.{Result, All, decode}
 
@@ -18,7 +17,7 @@ pub record EachReal (area parameter coordinate : Float → Type 0) (r : Result) 
 abbrev pub Bounded : List ℕ → Type 0
 Bounded b = EachReal (Within (10 ^ 24)) (Within (10 ^ 24)) (Within (10 ^ 24)) (decode b)
 
--- the same, nearer to what the limits of a face record give: 18,014,398,509,481,984, then 4,194,304, then 4,294,967,296
+-- the same, nearer to what the limits of a face record give: areas at most 18,014,398,509,481,984, parameters 4,194,304, coordinates 4,294,967,296
 abbrev pub mostArea : ℕ
 mostArea = 2 ^ 54
 
@@ -31,15 +30,7 @@ mostCoordinate = 2 ^ 32
 abbrev pub Narrow : List ℕ → Type 0
 Narrow b = EachReal (Within mostArea) (Within mostParameter) (Within mostCoordinate) (decode b)
 
--- the pattern that `to_bits` of `numbers` writes for a NaN never stands in a result
-abbrev pub IsNumber : Float → Type 0
-IsNumber x = isNan x ≡ false
-
-abbrev pub Numbers : List ℕ → Type 0
-Numbers b = EachReal IsNumber IsNumber IsNumber (decode b)
-
 -- of the lent bytes after a call that closed its face
 pub record ResultBounded (code : ℕ) (new : List ℕ) : Type 0 where
   pub bounded : code ≡ 0 → Bounded new
   pub narrow : code ≡ 0 → Narrow new
-  pub numbers : code ≡ 0 → Numbers new
