@@ -5,7 +5,7 @@ use mathlib.Core.Bool.{Bool, true, false}
 use mathlib.Core.List.{List, [], _∷_}
 use lib.Dec.{eqb}
 use lib.IntN.{pos, negsuc}
-use lib.Ieee.{Float, fin, add, sub, mul, div, neg, lt, le, eq, ne, ofBits, ofInt}
+use lib.Ieee.{Float, binary64, fin, add, sub, mul, div, neg, lt, le, eq, ne, ofBits, ofInt}
 use Rattle.loops.specs.Steps.{net, netOf, count, stepsRound, stepsAlong}
 use Rattle.loops.specs.Rings.{endsMeet, begun, closed, turned}
 use Rattle.loops.specs.Repeats.{dropMerging, dropRepeats, dropSuccessive, dropTrailing, keptFrom, cutBack}
@@ -13,23 +13,33 @@ use Rattle.numbers.specs.Order.{absOf}
 use Rattle.numbers.specs.Round.{roundAway, floorOf}
 use Rattle.loops.specs.Mean.{meanOf, sumOf}
 use Rattle.loops.specs.Span.{leastOf, greatestOf}
-use Rattle.bands.specs.Corners.{Corner, Corners, us, vs, positions}
-use Rattle.rings.specs.Choices.{leastU, greatestU, stripShift, straddles, nearest, firstLeast, firstFrom, serve, beginsBackward, standsAtTheCut}
+use Rattle.bands.specs.Corners.{Corner, Corners, us, positions}
+use Rattle.rings.specs.Choices.{leastU, greatestU, firstPast, stripShift, straddles, nearest, firstLeast, firstFrom, serve, beginsBackward, standsAtTheCut}
 use Rattle.rings.specs.Turns.{unlessZero, beginRingAt, turnedOnto, alignAt}
 use Rattle.rings.specs.Starts.{alignedU, slidU, firstFor, laterFor, serves, firstServing, start}
 use Rattle.bands.specs.Given.{Measured, Loop, Given, only, givenOf}
-use Rattle.bands.specs.Rings.{Face, rising, shifted, laid, onto, onStrip, anyStraddles, acrossSeam, hasStrip, reseam, alignCuts, slideToCut, trial, started}
+use Rattle.bands.specs.Rings.{Face, rising, shifted, laid, onto, onStrip, anyStraddles, acrossSeam, gapOf, recut, cutAnew, hasStrip, hasGap, reseam, alignCuts, slideToCut, trial, started}
+use Rattle.seam.specs.Gap.{insert, sorted, passed, gapAlong, widestGap, usable}
 use Rattle.surfaces.specs.declared.surface.Period.the-variants.{Every, None}
-use Rattle.surfaces.specs.Rungs.{inner}
+use Rattle.surfaces.specs.Rungs.{division, divisionsFrom, slackOf, near, keptAfter, rungs, inner}
 use Rattle.bands.specs.Strip.{Setting, ladder, heights, strip}
-use Rattle.bands.specs.Band.{firstIsLower, lift, joined, lowerFirst, lowerRing, upperRing, stripOf, outer}
+use Rattle.bands.specs.Band.{firstIsLower, lift, joined, lowerFirst, lowerRing, upperRing, stripOf, outer, holes}
 
--- 0 to 5 as reals
+-- -4 to 7 as reals
+abbrev r-4 : Float
+r-4 = fin true 1 (pos 2)
+
+abbrev r-1 : Float
+r-1 = fin true 1 (pos 0)
+
 abbrev r0 : Float
 r0 = fin false 0 (pos 0)
 
 abbrev r1 : Float
 r1 = fin false 1 (pos 0)
+
+abbrev r1·5 : Float
+r1·5 = fin false 3 (negsuc 0)
 
 abbrev r2 : Float
 r2 = fin false 1 (pos 1)
@@ -42,6 +52,15 @@ r4 = fin false 1 (pos 2)
 
 abbrev r5 : Float
 r5 = fin false 5 (pos 0)
+
+abbrev r5·5 : Float
+r5·5 = fin false 11 (negsuc 0)
+
+abbrev r6 : Float
+r6 = fin false 3 (pos 1)
+
+abbrev r7 : Float
+r7 = fin false 7 (pos 0)
 
 abbrev corner : {X : Type 0} → Float → Float → X → Corner X
 corner u v a = record { u = u; v = v; at = a }
@@ -135,7 +154,7 @@ offset-trial : us (trial r4 0 (record { first = corner r0 r0 A ∷ corner r1 r0 
 unfolding trial beginRingAt alignCuts alignAt turnedOnto nearest firstLeast slideToCut unlessZero begun closed absOf roundAway add sub mul div neg lt ne ofBits
 offset-trial = refl
 
--- ---- which ring is lower: of equal means the first, and on a torus the one that goes with the face, to which the other is lifted
+-- ---- which ring is lower: of equal means the first, and on a torus the one that goes with the face
 
 tie-of-means : firstIsLower None true false r1 r1 ≡ true
 unfolding firstIsLower lt
@@ -145,20 +164,125 @@ swapped : firstIsLower (Every r4) false true r1 r2 ≡ false
 unfolding firstIsLower lt
 swapped = refl
 
-ring-torus : Setting ℕ
-ring-torus = record { period = r4; vPeriod = Every r4; sense = true; same = eqb; pointAt = λ u v. 0; rungs = λ lo hi n. lo ∷ hi ∷ []; steps = λ lo hi. 1 }
+-- ---- two rings of the period 4, and holes
 
-high-rising : Given ℕ
-high-rising = record {
-  first = record { corners = corner r0 r2 10 ∷ corner r1 r2 11 ∷ corner r4 r2 10 ∷ []; falls = false };
-  later = record { corners = corner r4 r1 20 ∷ corner r1 r1 21 ∷ corner r0 r1 20 ∷ []; falls = true };
+five : Corners ℕ
+five = corner r0 r1 20 ∷ corner r1 r1 21 ∷ corner r2 r1 22 ∷ corner r3 r1 23 ∷ corner r4 r1 20 ∷ []
+
+four : Corners ℕ
+four = corner r0 r0 10 ∷ corner r1·5 r0 11 ∷ corner r2 r0 12 ∷ corner r4 r0 10 ∷ []
+
+-- a hole from a to b
+slot : Float → Float → ℕ → Corners ℕ
+slot a b n = corner a r0 n ∷ corner b r0 (n + 1) ∷ corner b r1 (n + 2) ∷ []
+
+bored : Corners ℕ → Measured ℕ
+bored hole = record { corners = hole; wrap = pos 0 }
+
+pierced : List (Corners ℕ) → Given ℕ
+pierced holes = record { first = record { corners = five; falls = false }; later = record { corners = four; falls = false }; holes = holes }
+
+-- ---- starts
+
+-- The first ring begins backward; from its point 1 it begins with a constant-u step, and from its point 2 it ends with it.
+late : Face ℕ
+late = record {
+  first = corner r2 r1 20 ∷ corner r1 r1 21 ∷ corner r1 r1 22 ∷ corner r3 r1 23 ∷ corner r6 r1 20 ∷ [];
+  later = corner r0 r0 10 ∷ corner r1 r0 11 ∷ corner r3 r0 12 ∷ corner r4 r0 10 ∷ [];
   holes = [];
 }
 
-torus-lower : vs (lowerRing ring-torus high-rising) ≡ r2 ∷ r2 ∷ r2 ∷ []
-unfolding stripOf strip heights ladder lowerRing upperRing lowerFirst firstIsLower lift joined laid rising shifted leastU greatestU reseam hasStrip acrossSeam onStrip anyStraddles started start firstServing firstFrom serves serve firstFor laterFor alignedU slidU beginsBackward standsAtTheCut trial beginRingAt alignCuts alignAt turnedOnto nearest firstLeast slideToCut unlessZero turned begun closed leastOf greatestOf meanOf sumOf absOf roundAway ring-torus high-rising onto stripShift straddles floorOf add sub mul div neg lt le eq ne ofBits ofInt inner
-torus-lower = refl
+-- ---- walls: three steps of `merge_even`, and a position says where it comes from
 
-torus-upper : vs (upperRing ring-torus high-rising) ≡ r5 ∷ r5 ∷ r5 ∷ []
-unfolding stripOf strip heights ladder lowerRing upperRing lowerFirst firstIsLower lift joined laid rising shifted leastU greatestU reseam hasStrip acrossSeam onStrip anyStraddles started start firstServing firstFrom serves serve firstFor laterFor alignedU slidU beginsBackward standsAtTheCut trial beginRingAt alignCuts alignAt turnedOnto nearest firstLeast slideToCut unlessZero turned begun closed leastOf greatestOf meanOf sumOf absOf roundAway ring-torus high-rising onto stripShift straddles floorOf add sub mul div neg lt le eq ne ofBits ofInt inner
-torus-upper = refl
+pub data Spot : Type 0 where
+  given : ℕ → Spot
+  surface : Float → Float → Spot
+
+thirds : Setting Spot
+thirds = record { period = r4; vPeriod = None; sense = true; same = λ a b. false; pointAt = surface; rungs = rungs; steps = λ lo hi. 3 }
+
+abbrev ⅓ : Float
+⅓ = ofBits binary64 0x3fd5_5555_5555_5555
+
+abbrev ⅔ : Float
+⅔ = ofBits binary64 0x3fe5_5555_5555_5555
+
+-- ---- a torus, period 4 in u and v: one ring rises and one falls, and the rising one is the first
+
+torus : Bool → Setting ℕ
+torus sense = record { period = r4; vPeriod = Every r4; sense = sense; same = eqb; pointAt = λ u v. 0; rungs = λ lo hi n. lo ∷ hi ∷ []; steps = λ lo hi. 1 }
+
+rising-at : Float → Float → Given ℕ
+rising-at v w = record {
+  first = record { corners = corner r0 v 10 ∷ corner r1 v 11 ∷ corner r4 v 10 ∷ []; falls = false };
+  later = record { corners = corner r4 w 20 ∷ corner r1 w 21 ∷ corner r0 w 20 ∷ []; falls = true };
+  holes = [];
+}
+
+-- the strip from the rising ring up to the falling one, and the other way
+up-from-rising : Float → Float → Corners ℕ
+up-from-rising v w =
+    corner r0 v 10 ∷ corner r1 v 11 ∷ corner r4 v 10 ∷ corner r4 v 10
+    ∷ corner r4 w 20 ∷ corner r4 w 20 ∷ corner r1 w 21 ∷ corner r0 w 20 ∷ []
+
+up-from-falling : Float → Float → Corners ℕ
+up-from-falling w v =
+    corner r0 w 20 ∷ corner r1 w 21 ∷ corner r4 w 20 ∷ corner r4 w 20
+    ∷ corner r4 v 10 ∷ corner r4 v 10 ∷ corner r1 v 11 ∷ corner r0 v 10 ∷ []
+
+-- ---- the values
+
+record Values : Type 0 where
+  -- each hole is there, in file order, the second brought back onto the strip
+  two-holes : holes plain (givenOf (lowLoop ∷ bored (slot r1 r2 31) ∷ highLoop ∷ bored (slot r5 r6 41) ∷ []))
+      ≡ slot r1 r2 31 ∷ slot r1 r2 41 ∷ []
+  -- A hole from -1 to 1 lies across the seam, and one from 0 to 1 beside it. The gap is from 1 to 3: each ring begins anew at its first point at or past 2, and
+  -- the second hole lies before that.
+  cut-anew : reseam r4 (laid r4 (pierced (slot r-1 r1 31 ∷ slot r0 r1 41 ∷ [])))
+      ≡ record {
+        first = corner r2 r1 22 ∷ corner r3 r1 23 ∷ corner r4 r1 20 ∷ corner r4 r1 20 ∷ corner r5 r1 21 ∷ [];
+        later = corner r2 r0 12 ∷ corner r4 r0 10 ∷ corner r4 r0 10 ∷ corner r5·5 r0 11 ∷ [];
+        holes = slot r3 r5 31 ∷ slot r4 r5 41 ∷ [];
+      }
+  -- a hole from -4 to 1 covers the strip and reaches past it: there is no gap, and the rings stay
+  no-gap : reseam r4 (laid r4 (pierced (slot r1 r2 31 ∷ slot r-4 r1 41 ∷ [])))
+      ≡ record { first = five; later = four; holes = slot r1 r2 31 ∷ slot r0 r5 41 ∷ [] }
+  -- point 3 is the first that serves; the later ring begins where it is nearest to it
+  start-3 : started r4 late
+      ≡ record {
+        first = corner r3 r1 23 ∷ corner r6 r1 20 ∷ corner r5 r1 21 ∷ corner r5 r1 22 ∷ corner r7 r1 23 ∷ [];
+        later = corner r3 r0 12 ∷ corner r4 r0 10 ∷ corner r5 r0 11 ∷ corner r7 r0 12 ∷ [];
+        holes = [];
+      }
+  -- none of three starts serves: the fallback is the point after a backward step, and else the first
+  none-serves : firstServing r4 (r2 ∷ r1 ∷ r1 ∷ r6 ∷ []) (r0 ∷ r1 ∷ r2 ∷ r4 ∷ []) ≡ 3
+  fallback-past : start r4 (r2 ∷ r1 ∷ r1 ∷ r6 ∷ []) (r0 ∷ r1 ∷ r2 ∷ r4 ∷ []) ≡ 1
+  fallback-first : start r4 (r1 ∷ r1 ∷ r1 ∷ r5 ∷ []) (r0 ∷ r1 ∷ r2 ∷ r4 ∷ []) ≡ 0
+  -- the wall at the lower ring's first u, upward and downward, is the ladder from the lesser v, to the bit: counted from the greater v its rungs have other bits
+  wall-rises : positions (strip thirds (corner r1 r0 (given 1) ∷ []) (corner r2 r1 (given 2) ∷ []))
+      ≡ given 1 ∷ given 1 ∷ surface r1 ⅓ ∷ surface r1 ⅔ ∷ given 2 ∷ given 2 ∷ surface r1 ⅔ ∷ surface r1 ⅓ ∷ []
+  wall-falls : positions (strip thirds (corner r1 r1 (given 1) ∷ []) (corner r2 r0 (given 2) ∷ []))
+      ≡ given 1 ∷ given 1 ∷ surface r1 ⅔ ∷ surface r1 ⅓ ∷ given 2 ∷ given 2 ∷ surface r1 ⅓ ∷ surface r1 ⅔ ∷ []
+  -- with the face's sense the rising ring is the lower one, and the other is lifted to it; against the sense the falling one
+  with-sense : stripOf (torus true) (rising-at r1 r2) ≡ up-from-rising r1 r2
+  with-sense-lifted : stripOf (torus true) (rising-at r2 r1) ≡ up-from-rising r2 r5
+  against-sense : stripOf (torus false) (rising-at r2 r1) ≡ up-from-falling r1 r2
+  against-sense-lifted : stripOf (torus false) (rising-at r1 r2) ≡ up-from-falling r2 r5
+
+values : Values
+unfolding stripOf strip heights ladder lowerRing upperRing lowerFirst firstIsLower lift joined holes laid rising shifted leastU greatestU reseam hasStrip acrossSeam onStrip anyStraddles gapOf hasGap cutAnew recut firstPast widestGap gapAlong sorted insert passed usable started start firstServing firstFrom serves serve firstFor laterFor alignedU slidU beginsBackward standsAtTheCut trial beginRingAt alignCuts alignAt turnedOnto nearest firstLeast slideToCut unlessZero turned begun closed leastOf greatestOf meanOf sumOf absOf roundAway plain givenOf only lowLoop highLoop five four slot bored pierced late thirds torus rising-at up-from-rising up-from-falling onto stripShift straddles floorOf add sub mul div neg lt le eq ne ofBits ofInt inner rungs keptAfter near slackOf divisionsFrom division
+values = record {
+  two-holes = refl;
+  cut-anew = refl;
+  no-gap = refl;
+  start-3 = refl;
+  none-serves = refl;
+  fallback-past = refl;
+  fallback-first = refl;
+  wall-rises = refl;
+  wall-falls = refl;
+  with-sense = refl;
+  with-sense-lifted = refl;
+  against-sense = refl;
+  against-sense-lifted = refl;
+}
