@@ -42,7 +42,7 @@ use Rattle.bands.specs.Rings.{rising, shifted, laid, onto, onStrip, anyStraddle
 use Rattle.bands.specs.Strip.{ladder, heights, strip}
 use Rattle.records.specs.Bytes.{number, numberAt, realAt, uvAt, xyzAt, rowAt, bytes, real, uv, xyz, row, sum}
 use Rattle.records.specs.Call as Call
-use Rattle.records.specs.Call.{refused, closed, value}
+use Rattle.records.specs.Call.{refused, closed, code, value}
 use Rattle.records.specs.Face.{start, counts, parameters, positions}
 use Rattle.records.specs.Limits.{0·0, 0·001, 1·5, holds, headRange, radius, second, uvRange, uRange, vRange, range}
 use Rattle.records.specs.Refusals.{passes, verdict, firstFrom, tooFewLent, wrongByte, wrongHeader, tooManyLoops, endsInCounts, tooFewPoints, tooManyPoints, wrongLength, badReal, firstBadReal}
@@ -67,23 +67,23 @@ abbrev head : Float → List Float
 head angle = 0·0 ∷ 0·0 ∷ 0·0 ∷ 0·0 ∷ 0·0 ∷ one ∷ one ∷ 0·0 ∷ 0·0 ∷ one ∷ 0·0 ∷ one ∷ angle ∷ []
 
 -- a ring at a height: three points of a turn of u, and the first again; with u rising and with u falling
-abbrev risingUv : Float → List Float
+abbrev pub risingUv : Float → List Float
 risingUv v = 0·0 ∷ v ∷ H ∷ v ∷ PI ∷ v ∷ TAU ∷ v ∷ []
 
-abbrev risingXyz : Float → List Float
+abbrev pub risingXyz : Float → List Float
 risingXyz z = one ∷ 0·0 ∷ z ∷ 0·0 ∷ one ∷ z ∷ -1·0 ∷ 0·0 ∷ z ∷ one ∷ 0·0 ∷ z ∷ []
 
-abbrev fallingUv : Float → List Float
+abbrev pub fallingUv : Float → List Float
 fallingUv v = TAU ∷ v ∷ PI ∷ v ∷ H ∷ v ∷ 0·0 ∷ v ∷ []
 
-abbrev fallingXyz : Float → List Float
+abbrev pub fallingXyz : Float → List Float
 fallingXyz z = one ∷ 0·0 ∷ z ∷ -1·0 ∷ 0·0 ∷ z ∷ 0·0 ∷ one ∷ z ∷ one ∷ 0·0 ∷ z ∷ []
 
 -- a ring of two points of a turn, and the first again
-abbrev shortUv : Float → List Float
+abbrev pub shortUv : Float → List Float
 shortUv v = 0·0 ∷ v ∷ PI ∷ v ∷ TAU ∷ v ∷ []
 
-abbrev shortXyz : Float → List Float
+abbrev pub shortXyz : Float → List Float
 shortXyz z = one ∷ 0·0 ∷ z ∷ -1·0 ∷ 0·0 ∷ z ∷ one ∷ 0·0 ∷ z ∷ []
 
 abbrev origin : Vec3
@@ -179,7 +179,8 @@ pub record Answers : Type 0 where
   pub cylinder-bare : judge 61614 bareCylinder ≡ refused 11 0
   pub cone-bare : judge 61614 (set bareCylinder 1 2) ≡ refused 11 0
   -- five steps round the sphere and three up it: 16 corners, 4 + 10 + 40 * 16 bytes
-  pub sphere-whole : value (judge 61614 bareSphere) ≡ 654
+  pub sphere-closed : code (judge 61614 bareSphere) ≡ 0
+  pub sphere-long : value (judge 61614 bareSphere) ≡ 654
   -- "1,024 strip points pass, 1,025 refuse"
   pub strip-passes : verdict (allConditions 61614) strip1024 ≡ passes
   pub strip-refused : judge 61614 strip1025 ≡ refused 12 1025
@@ -200,7 +201,8 @@ answers = record {
   three-wrap = refl;
   cylinder-bare = refl;
   cone-bare = refl;
-  sphere-whole = refl;
+  sphere-closed = refl;
+  sphere-long = refl;
   strip-passes = refl;
   strip-refused = refl;
 }

@@ -8,9 +8,9 @@ use lib.Ieee.{Float, binary64, round, ofBits, toBits, odd, ofFields, le, lt, eq,
 use Rattle.records.specs.Bytes.{number, numberAt, realAt, uvAt, xyzAt, rowAt, bytes, real, uv, xyz, row, sum}
 use Rattle.records.specs.Face.{start}
 use Rattle.records.specs.Limits.{10^9, 10^6, 10^3, 64·0, 1·5, 0·001, 10^-6, 0·0, holds, headRange, radius, second, uvRange, uRange, vRange, range}
-use Rattle.records.specs.Refusals.{Verdict, passes, refuses, conditions, verdict, firstFrom, tooFewLent, wrongByte, wrongHeader, tooManyLoops, endsInCounts, tooFewPoints, tooManyPoints, wrongLength, badReal, firstBadReal}
+use Rattle.records.specs.Refusals.{Verdict, passes, refuses, Condition, conditions, verdict, firstFrom, tooFewLent, wrongByte, wrongHeader, tooManyLoops, endsInCounts, tooFewPoints, tooManyPoints, wrongLength, badReal, firstBadReal}
 use Rattle.records.specs.Result.{Result, encode, decode, countsIn, cornersIn}
-use Rattle.records.specs.Call.{refused, output}
+use Rattle.records.specs.Call.{judge, output}
 
 -- ---- the bounds of `Limits`: each is the double nearest to its number, here a quotient of whole numbers
 
@@ -158,8 +158,8 @@ pub record Records : Type 0 where
   pub triangle-read : decode written ≡ triangleResult
   pub written-long : length written ≡ 134
   -- 01, "The result record": "Empty input gives `00 02 00 00 00 00`."
-  pub empty-output : output (refused 2 0) ≡ 0 ∷ 2 ∷ 0 ∷ 0 ∷ 0 ∷ 0 ∷ []
+  pub empty-output : (later : List Condition) (result : List ℕ → List ℕ) → output (judge later result 61614 []) ≡ 0 ∷ 2 ∷ 0 ∷ 0 ∷ 0 ∷ 0 ∷ []
 
 pub record-values : Records
-unfolding encode decode countsIn cornersIn row rowAt sum number numberAt bytes real realAt uv uvAt xyz xyzAt ofBits ofFields odd toBits
-record-values = record { triangle-written = refl; triangle-read = refl; written-long = refl; empty-output = refl }
+unfolding encode decode countsIn cornersIn row rowAt sum number numberAt bytes real realAt uv uvAt xyz xyzAt ofBits ofFields odd toBits judge verdict tooFewLent wrongHeader
+record-values = record { triangle-written = refl; triangle-read = refl; written-long = refl; empty-output = λ later result. refl }
