@@ -68,7 +68,7 @@ pub record Starred : Type 0 where
   -- period 4, cut 0, ring u 1, 2, 3, 4, 5, positions A B C D A: becomes u 0, 1, 2, 3, 4, D A B C D
   pub ring : alignCuts (count 4) (count 0) (at (count 1) A ∷ at (count 2) B ∷ at (count 3) C ∷ at (count 4) D ∷ at (count 5) A ∷ []) ≡ at (count 0) D ∷ at (count 1) A ∷ at (count 2) B ∷ at (count 3) C ∷ at (count 4) D ∷ []
   -- two equal squares: the second is outer
-  pub second-square : outerOf (boxesOf (squareU one ∷ squareU one ∷ []) (squareV one ∷ squareV one ∷ [])) (one ∷ one ∷ []) ≡ 1
+  pub second-square : outerOf (boxesOf (squareU one ∷ squareU one ∷ []) (squareV one ∷ squareV one ∷ [])) (areaOf (squareU one) (squareV one) ∷ areaOf (squareU one) (squareV one) ∷ []) ≡ 1
 
 pub starred : Starred
 unfolding roundAway floorOf absOf sqrtOf sincosOf nearestBranch netWrap turnsCounted areaOf crossSum crossAt alignCuts alignAt turnedOnto nearest firstLeast begun closed add sub mul div neg lt le eq ofBits toBits ofInt toSigned
