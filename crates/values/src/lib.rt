@@ -1,2 +1,2 @@
-// The values that document 01 marks with a star, proved of the definitions: specs/Starred.antt. No
-// function.
+// The values that document 01 marks with a star, proved of the definitions: specs/Starred.antt. Bands
+// from bytes to bytes: specs/Faces.antt. No function.
