@@ -27,6 +27,7 @@ mod report;
 mod results;
 mod shapes;
 mod surfaces;
+mod triangle;
 mod values;
 mod whole;
 #[cfg(closer)]

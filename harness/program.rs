@@ -1,7 +1,9 @@
-//! Runs the program `close` on the stored faces, and on inputs that a pipe or a file may give: in
-//! pieces, longer than any record, empty, or not to be read at all.
+//! Runs the program `close` on document 01's triangle, on the stored faces, and on inputs that a
+//! pipe or a file may give: in pieces, longer than any record, empty, or not to be read at all.
 //!
 //!     program CLOSE_PROGRAM FACES_FILE ANSWERS_FILE
+
+mod triangle;
 
 use std::fs::File;
 use std::io::{Read, Write};
@@ -21,6 +23,8 @@ fn main() {
         eprintln!("usage: program CLOSE_PROGRAM FACES_FILE ANSWERS_FILE");
         std::process::exit(2);
     };
+    let triangle = triangle::face();
+    hold("document 01's triangle", &fed(close, vec![triangle.clone()]), &triangle::result());
     let stored = stored(&read(faces), &read(answers));
     for (i, (record, answer)) in stored.iter().enumerate() {
         hold("a stored face", &fed(close, vec![record.clone()]), answer);
@@ -29,7 +33,6 @@ fn main() {
             hold("a face in pieces", &fed(close, vec![front.to_vec(), back.to_vec()]), answer);
         }
     }
-    let triangle = &stored.iter().find(|(_, answer)| answer[0] == 1).expect("a closed face").0;
     let longer = |more: usize| [triangle.clone(), vec![0; more]].concat();
     let needed = [&[0, 6][..], &(triangle.len() as u32).to_le_bytes()].concat();
     for more in [1, READ - triangle.len() - 1, READ - triangle.len(), 100_000] {
@@ -37,7 +40,11 @@ fn main() {
     }
     hold("no input", &fed(close, vec![]), &[0, 2, 0, 0, 0, 0]);
     hold("an input that cannot be read", &from_folder(close), &[]);
-    println!("program: {} stored faces, each answer as stored", stored.len());
+    println!(
+        "program: document 01's triangle to its {} bytes, and {} stored faces, each answer as stored",
+        triangle::result().len(),
+        stored.len()
+    );
 }
 
 fn read(name: &str) -> Vec<u8> {

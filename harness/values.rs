@@ -9,6 +9,7 @@ use crate::original::{
     net_wrap, signed_area,
 };
 use crate::shapes::{Kind, Shape};
+use crate::triangle;
 
 pub fn hold() {
     let checks = [
@@ -95,7 +96,7 @@ fn shape(kind: Kind, sizes: [f64; 2]) -> Shape {
     Shape { kind, placement, sizes, sag: 1e-6, angle: 0.001, segments: 1 }
 }
 
-/// That triangle on a plane, with positions (u, v, 0).
+/// That triangle on a plane, with positions (u, v, 0), as `face_record` writes it.
 fn triangle() -> Vec<u8> {
     let uv = corners(&[(0.0, 0.0), (4.0, 0.0), (0.0, 3.0)]);
     let xyz = uv.iter().map(|p| Vec3::new(p.u, p.v, 0.0)).collect();
@@ -104,10 +105,8 @@ fn triangle() -> Vec<u8> {
 }
 
 fn triangle_closes() -> bool {
-    let mut expected = vec![1, 0, 0, 0, 3, 0];
-    let reals = [6.0, 0.0, 0.0, 4.0, 0.0, 0.0, 3.0, 0.0, 0.0, 0.0, 4.0, 0.0, 0.0, 0.0, 3.0, 0.0];
-    expected.extend(reals.iter().flat_map(|x: &f64| x.to_le_bytes()));
-    triangle().len() == 231 && expected.len() == 134 && closes_to(&triangle(), &expected)
+    let (face, result) = (triangle::face(), triangle::result());
+    face.len() == 231 && result.len() == 134 && triangle() == face && closes_to(&face, &result)
 }
 
 fn closes_to(record: &[u8], expected: &[u8]) -> bool {

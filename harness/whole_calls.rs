@@ -5,9 +5,10 @@ use crate::branches::{BANDS, LEAST, LIMITS, REGIONS, all_met, face_done, forget}
 use crate::calls::{Call, call};
 use crate::closer::close_face;
 use crate::edges::{self, pairs};
-use crate::judge::{Answer, judge};
+use crate::judge::{Answer, LENT, judge};
 use crate::report::{Check, Run};
 use crate::shapes::KINDS;
+use crate::triangle;
 
 const CALLS: u64 = 250_000;
 
@@ -17,6 +18,7 @@ const PAIRS: usize = 59;
 pub fn compare(run: &Run) {
     let mut check = run.check("close_face");
     let mut lent = Lent::new();
+    triangle_closes(&mut lent);
     let mut met = Met::default();
     forget();
     let mut see = |check: &mut Check, edge: bool, call: &Call| {
@@ -39,6 +41,23 @@ pub fn compare(run: &Run) {
         println!("comparison: the calls leave a path, a refusal, a branch or a limit out");
         std::process::exit(1);
     }
+}
+
+/// The triangle of document 01, byte for byte, with both patterns in the lent bytes: it needs
+/// neither the Rust nor the judge.
+fn triangle_closes(lent: &mut Lent) {
+    let call = Call { lent: LENT, record: triangle::face() };
+    let expected = telling(0, 134, None, &triangle::result());
+    for pattern in 0..2 {
+        let rattle = lent.called(&call, pattern);
+        if rattle != expected {
+            println!("comparison: document 01's triangle: DIFFERENT");
+            println!("  code, value, a byte that changed, result: {rattle:02x?}");
+            println!("  to be told: {expected:02x?}");
+            std::process::exit(1);
+        }
+    }
+    println!("comparison: the call closes document 01's triangle, 231 bytes, to its 134 bytes");
 }
 
 /// What is to be told of a call: the code, the value, the first byte that changed and was to stay,
