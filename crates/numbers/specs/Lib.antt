@@ -2,6 +2,7 @@ pub mod Constants
 pub mod Rounded
 pub mod Order
 pub mod Round
+pub mod WholeNumbers
 pub mod Root
 pub mod Sqrt
 pub mod Nearest

@@ -1,11 +1,13 @@
--- The exact cases of sin and cos: whole multiples of H, rounded once.
+-- The exact cases of sin and cos: whole multiples of H, rounded once. 01, "How each place should look": "exact cases at multiples of H".
 use Prim.Native.Nat.{ℕ, zero, suc, _-_, _%_}
-use mathlib.Core.Bool.{Bool, _&&_}
+use mathlib.Core.Path.{_≡_}
+use mathlib.Core.Bool.{Bool, true, false, _&&_}
 use lib.IntN.{ℤ, pos, negsuc}
-use lib.Ieee.{Float, binary64, neg, eq, ofInt}
+use lib.Ieee.{Float, binary64, neg, eq, lt, ofInt}
 use Rattle.numbers.specs.declared.trig.SinCos.{SinCos}
 use Rattle.numbers.specs.Rounded.{_⊗_}
-use Rattle.numbers.specs.Constants.{plusZero, one, H}
+use Rattle.numbers.specs.Constants.{plusZero, one, thousand, H}
+use Rattle.numbers.specs.Trig.{sincosOf}
 
 -- k times H
 abbrev pub multipleOf : ℤ → Float
@@ -26,3 +28,8 @@ exactly (suc (suc (suc k))) = record { sin = neg one; cos = plusZero }
 -- both are equal as numbers
 abbrev pub equal : SinCos → SinCos → Bool
 equal a b = eq (a .sin) (b .sin) && eq (a .cos) (b .cos)
+
+-- for whole k, with t = k H of size at most 1,000, sin t and cos t are those of k quarter turns
+abbrev pub ExactMultiples : Type 0
+ExactMultiples =
+    (k : ℤ) → lt thousand (multipleOf k) ≡ false → lt (multipleOf k) (neg thousand) ≡ false → equal (sincosOf (multipleOf k)) (exactly (quartersOf k)) ≡ true

@@ -1,4 +1,4 @@
--- Rounding to whole numbers. A finite real is a / b with its sign, where a = m * up e and b = down e are whole. The answer has the same sign, and its size is a whole number (proofs/rounding/Meaning.antt says which one, by its distance). NaN and the infinities stay.
+-- Rounding to whole numbers. A finite real is a / b with its sign, where a = m * up e and b = down e are whole. The answer has the same sign, and its size is a whole number (`WholeNumbers.antt` says which one, by its distance). NaN and the infinities stay.
 use Prim.Native.Nat.{ℕ, _+_, _-_, _*_, _/_}
 use mathlib.Core.Bool.{Bool, true, false}
 use lib.Ieee.{Float, nan, inf, fin, binary64, up, down, round}

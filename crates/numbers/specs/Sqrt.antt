@@ -1,4 +1,4 @@
--- The square root of a real, rounded once: to the nearest, ties to even (proofs/root/Nearest.antt shows that no other real is as near). In units of the least real, 2 ^ -1074, a root is √X for the whole number X = x * 4 ^ 1074.
+-- The square root of a real, rounded once: to the nearest, ties to even (`Nearest.antt` says that no other real is as near). In units of the least real, 2 ^ -1074, a root is √X for the whole number X = x * 4 ^ 1074.
 -- As `round` of lib.Ieee does with a fraction, of √X's whole part the format keeps the 53 leading digits q and drops k, and goes up by how √X compares with (q + 1 / 2) * 2 ^ k, squared and times 4.
 -- NaN and everything below zero give NaN, but -0.0 gives -0.0.
 use Prim.Native.Nat.{ℕ, zero, suc, _+_, _-_, _*_, _/_, _^_, compare}

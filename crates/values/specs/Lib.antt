@@ -1,2 +1,3 @@
 pub mod Starred
 pub mod Faces
+pub mod Meanings

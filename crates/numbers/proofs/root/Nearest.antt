@@ -17,7 +17,7 @@ use lib.Ieee.Exact.{HasValue, units-val}
 use Rattle.numbers.proofs.Reals.{fits-digits, fits-under, place}
 use Rattle.numbers.specs.Root.{rootOf}
 use Rattle.numbers.specs.Sqrt.{rootFloat, sqrtOf}
-use Rattle.numbers.specs.Nearest.{NearestRoot}
+use Rattle.numbers.specs.Nearest.{NearestRoot, SqrtMeans}
 use Rattle.numbers.proofs.root.Whole.{pow-lt-back, square-odd, square-lt, square-lt-back, square-shift, four-pow, four-pos, root-is}
 
 -- a float of Y units is c * 2 ^ j units, with c of 53 digits
@@ -225,8 +225,7 @@ root-nearest X c j e C a b =
     let h = half-of X Q K (c * 2 ^ (j - (K + K))) m k (compare (4 * X) r) (leb→le (4 * X) r) (nleb→lt (4 * X) r) (eqb→eq (4 * X) r) in
     near-of-half X (nearest Q (compare (4 * X) r)) K (h .0) (h .1) (bounded (nearest Q (compare (4 * X) r)) K (h .1) (few X b))
 
--- for every real above zero and below the infinity, `sqrtOf` is the nearest to the root
-pub sqrt-nearest : (m : ℕ) (e : ℤ) → T (fits binary64 (fin false (suc m) e)) → NearestRoot (suc m * up e * 4 ^ 1074 / down e) (sqrtOf (fin false (suc m) e))
+pub sqrt-nearest : SqrtMeans
 unfolding sqrtOf
 sqrt-nearest m e f =
     let g = fits-digits binary64 false (suc m) e f in

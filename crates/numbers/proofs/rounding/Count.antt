@@ -16,7 +16,7 @@ use Rattle.numbers.specs.Order.{absOf, maxOf}
 use Rattle.numbers.specs.Round.{cutUp, ceilOf}
 use Rattle.numbers.specs.Within.{Within, Held, Beyond, NonNeg}
 use Rattle.numbers.proofs.Magnitude.{div-within}
-use Rattle.numbers.proofs.rounding.Meaning.{cut-above, ceil-below}
+use Rattle.numbers.proofs.rounding.Meaning.{cut-above, ceil-means}
 use Rattle.numbers.proofs.rounding.Cast.{ceil-cast}
 
 abs-within : (B : ℕ) (x : Float) → Within B x → Within B (absOf x)
@@ -43,7 +43,7 @@ pub cast-within : (B : ℕ) (x : Float) → T (fits binary64 x) → Within B x �
 cast-within B nan f w = absurd w
 cast-within B (inf s) f w = absurd w
 cast-within B (fin true m e) f w =
-    let c = ceil-below m e f in
+    let c = ceil-means true m e f in
     subst (λ (z : ℕ). z ≤ B) (sym (negative-cast (ceilOf (fin true m e)) (c .n) (c .exact))) (omega arith)
 cast-within B (fin false m e) f w =
     let n = cutUp (m * up e) (down e) in

@@ -1,4 +1,4 @@
--- Which whole number each rounding gives, by its distance. x is a / b in size, and n is the size of the answer, exactly.
+-- Round, floor and ceil give the whole numbers that specs/WholeNumbers.antt says. x is a / b in size, and n is the size of the answer, exactly.
 use mathlib.Core.Path.{_≡_, refl, sym, ap, _∙_, subst}
 use Prim.Native.Nat.{ℕ, zero, suc, _+_, _-_, _*_, _^_, _≤_, _<_}
 use native.Mathlib.Nat.{mul-assoc, mul-comm, div-mul-le-self, lt-div-mul-add, mul-pos, le-mul-of-pos-right, suc-mul}
@@ -13,21 +13,7 @@ use lib.Ieee.Back.{round-whole}
 use lib.Pow.{pow-pos}
 use Rattle.numbers.proofs.Reals.{fits-digits, whole-back}
 use Rattle.numbers.specs.Round.{cut, cutUp, nearestUp, roundAway, floorOf, ceilOf}
-
--- n is the nearest to a / b, of two the larger: n - 1 / 2 ≤ a / b < n + 1 / 2
-pub record Nearest (a b n : ℕ) : Type 0 where
-  pub low : 2 * n * b ≤ 2 * a + b
-  pub high : 2 * a < 2 * n * b + b
-
--- n ≤ a / b < n + 1
-pub record Below (a b n : ℕ) : Type 0 where
-  pub low : n * b ≤ a
-  pub high : a < n * b + b
-
--- n - 1 < a / b ≤ n
-pub record Above (a b n : ℕ) : Type 0 where
-  pub low : n * b < a + b
-  pub high : a ≤ n * b
+use Rattle.numbers.specs.WholeNumbers.{Nearest, Below, Above, Whole, RoundMeans, FloorMeans, CeilMeans}
 
 pub cut-below : (a b : ℕ) → 0 < b → Below a b (cut a b)
 cut-below a b h = record { low = div-mul-le-self a b; high = lt-div-mul-add h }
@@ -66,15 +52,10 @@ held s m (negsuc k) n f h l =
         omega arith
 
 -- ---- the answers
-pub record Whole (P : ℕ → ℕ → ℕ → Type 0) (s : Bool) (m : ℕ) (e : ℤ) (r : Float) : Type 0 where
-  pub n : ℕ
-  pub exact : HasValue r s n 1
-  pub is : P (m * up e) (down e) n
-
 whole : {P : ℕ → ℕ → ℕ → Type 0} (s : Bool) (m : ℕ) (e : ℤ) (n : ℕ) → T (fits binary64 (fin s m e)) → P (m * up e) (down e) n → n * down e < m * up e + down e → m * up e < n * down e + down e → Whole P s m e (round binary64 s n 1)
 whole s m e n f p l h = record { n = n; exact = held s m e n f l h; is = p }
 
-pub round-nearest : (s : Bool) (m : ℕ) (e : ℤ) → T (fits binary64 (fin s m e)) → Whole Nearest s m e (roundAway (fin s m e))
+pub round-nearest : RoundMeans
 unfolding roundAway
 round-nearest s m e f =
     let p = nearest-up (m * up e) (down e) (down-pos e) in
@@ -97,22 +78,15 @@ above s m e f =
     let u = p .high in
     whole s m e (cutUp (m * up e) (down e)) f p (p .low) (omega arith)
 
--- down: the size of what is above zero is cut, and of what is below zero it grows
-pub floor-below : (m : ℕ) (e : ℤ) → T (fits binary64 (fin false m e)) → Whole Below false m e (floorOf (fin false m e))
+pub floor-means : FloorMeans
 unfolding floorOf
-floor-below m e f = below false m e f
+floor-means false m e f = below false m e f
+floor-means true m e f = above true m e f
 
-pub floor-above : (m : ℕ) (e : ℤ) → T (fits binary64 (fin true m e)) → Whole Above true m e (floorOf (fin true m e))
-unfolding floorOf
-floor-above m e f = above true m e f
-
-pub ceil-above : (m : ℕ) (e : ℤ) → T (fits binary64 (fin false m e)) → Whole Above false m e (ceilOf (fin false m e))
+pub ceil-means : CeilMeans
 unfolding ceilOf
-ceil-above m e f = above false m e f
-
-pub ceil-below : (m : ℕ) (e : ℤ) → T (fits binary64 (fin true m e)) → Whole Below true m e (ceilOf (fin true m e))
-unfolding ceilOf
-ceil-below m e f = below true m e f
+ceil-means false m e f = above false m e f
+ceil-means true m e f = below true m e f
 
 -- the answer as a whole number, cut to none of its digits
 pub ceil-exact : (m : ℕ) (e : ℤ) → T (fits binary64 (fin false m e)) → HasValue (ceilOf (fin false m e)) false (cutUp (m * up e) (down e)) 1

@@ -16,7 +16,7 @@ use Rattle.numbers.specs.declared.trig.SinCos.{SinCos}
 use Rattle.numbers.specs.Constants.{one, thousand, H}
 use Rattle.numbers.specs.Round.{nearestUp, roundAway}
 use Rattle.numbers.specs.Trig.{turned, quarterOf, reducedOf, sincosIn, sincosOf}
-use Rattle.numbers.specs.Multiples.{multipleOf, quartersOf, exactly, equal}
+use Rattle.numbers.specs.Multiples.{multipleOf, quartersOf, exactly, equal, ExactMultiples}
 use Rattle.numbers.proofs.Reals.{Zero, round-neg}
 use Rattle.numbers.proofs.Equality.{and-left, and-right}
 use Rattle.numbers.proofs.Signed.{number, zero-is, le-trans-float, le-neg, not-less, le-of-not-less, le-numbers}
@@ -201,7 +201,6 @@ in-test (negsuc n) a b = go (decLe 636 n)
     go (yes l) = absurd (true≢false (sym (under n l) ∙ b))
     go (no l) = at (λ j. test (negsuc j)) 636 down-tested n (lt-of-not-le l)
 
--- for whole k, with t = k H of size at most 1,000, sin t and cos t are those of k quarter turns
-pub exact-multiples : (k : ℤ) → lt thousand (multipleOf k) ≡ false → lt (multipleOf k) (neg thousand) ≡ false → equal (sincosOf (multipleOf k)) (exactly (quartersOf k)) ≡ true
+pub exact-multiples : ExactMultiples
 unfolding sincosOf
 exact-multiples k a b = rw (a, b) (tested-exact k (in-test k a b))
