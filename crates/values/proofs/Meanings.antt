@@ -1,8 +1,16 @@
--- Each meaning, as `numbers` proves it.
+-- Each of them, as its crate proves it.
 use Rattle.numbers.proofs.rounding.Meaning.{round-nearest, floor-means, ceil-means}
 use Rattle.numbers.proofs.root.Nearest.{sqrt-nearest}
 use Rattle.numbers.proofs.trig.Exact.{exact-multiples}
+use Rattle.surfaces.proofs.knots.Rising.{stretch-of, sort-changes-nothing}
 use Rattle.values.specs.Meanings.{Meanings}
 
 pub meanings : Meanings
-meanings = record { round = round-nearest; floor = floor-means; ceil = ceil-means; sqrt = sqrt-nearest; sin-cos = exact-multiples }
+meanings = record {
+  round = round-nearest;
+  floor = floor-means;
+  ceil = ceil-means;
+  sqrt = sqrt-nearest;
+  sin-cos = exact-multiples;
+  merge-even = λ lo hi n v w h few. sort-changes-nothing lo hi n (stretch-of lo hi v w h) few;
+}

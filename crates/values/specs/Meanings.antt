@@ -1,7 +1,14 @@
--- The meanings that `numbers` states of its definitions, beside the values that document 01 stars: listed here so that none of them can go unnoticed.
+-- What is stated of the definitions of `numbers` and `surfaces` beyond the values that document 01 stars: listed here so that none of it can go unnoticed.
+use Prim.Native.Nat.{ℕ, _^_, _≤_}
+use mathlib.Core.Path.{_≡_}
+use lib.Dec.{T}
+use lib.Ieee.{Float, le}
 use Rattle.numbers.specs.WholeNumbers.{RoundMeans, FloorMeans, CeilMeans}
 use Rattle.numbers.specs.Nearest.{SqrtMeans}
 use Rattle.numbers.specs.Multiples.{ExactMultiples}
+use Rattle.numbers.specs.Within.{Within}
+use Rattle.surfaces.specs.Rungs.{divisions, slackOf, kept, rungs}
+use Rattle.surfaces.specs.Sorting.{sorted}
 
 pub record Meanings : Type 0 where
   -- the whole number that the name says, by its distance
@@ -12,3 +19,6 @@ pub record Meanings : Type 0 where
   pub sqrt : SqrtMeans
   -- sin and cos, exact at whole multiples of H
   pub sin-cos : ExactMultiples
+  -- The Rust sorts the divisions of `merge_even` before it drops those that are near. Up from one bound to another it changes nothing, rounding included.
+  pub merge-even : (lo hi : Float) (n : ℕ) → Within (2 ^ 1000) lo → Within (2 ^ 1000) hi → T (le lo hi) → n ≤ 2 ^ 53
+      → kept (slackOf lo hi) (sorted (divisions lo hi n)) ≡ rungs lo hi n
