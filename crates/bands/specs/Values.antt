@@ -25,7 +25,7 @@ use Rattle.surfaces.specs.Rungs.{division, divisionsFrom, slackOf, near, keptAf
 use Rattle.bands.specs.Strip.{Setting, ladder, heights, strip}
 use Rattle.bands.specs.Band.{firstIsLower, lift, joined, lowerFirst, lowerRing, upperRing, stripOf, outer, holes}
 
--- -4 to 7 as reals
+-- -4 to 8 as reals
 abbrev r-4 : Float
 r-4 = fin true 1 (pos 2)
 
@@ -61,6 +61,9 @@ r6 = fin false 3 (pos 1)
 
 abbrev r7 : Float
 r7 = fin false 7 (pos 0)
+
+abbrev r8 : Float
+r8 = fin false 1 (pos 3)
 
 abbrev corner : {X : Type 0} → Float → Float → X → Corner X
 corner u v a = record { u = u; v = v; at = a }
@@ -182,6 +185,14 @@ bored hole = record { corners = hole; wrap = pos 0 }
 pierced : List (Corners ℕ) → Given ℕ
 pierced holes = record { first = record { corners = five; falls = false }; later = record { corners = four; falls = false }; holes = holes }
 
+-- the later ring, one turn on
+further : Corners ℕ
+further = corner r4 r0 10 ∷ corner r5·5 r0 11 ∷ corner r6 r0 12 ∷ corner r8 r0 10 ∷ []
+
+-- a hole from 1 to so far, and from so far to 1
+reaches : Float → List Float
+reaches far = r1 ∷ far ∷ []
+
 -- ---- starts
 
 -- The first ring begins backward; from its point 1 it begins with a constant-u step, and from its point 2 it ends with it.
@@ -233,6 +244,14 @@ up-from-falling w v =
 -- ---- the values
 
 record Values : Type 0 where
+  -- a ring that lies a turn further comes back to the least u
+  one-branch : laid r4 (record { first = record { corners = five; falls = false }; later = record { corners = further; falls = false }; holes = [] })
+      ≡ record { first = five; later = four; holes = [] }
+  -- "more than 10^-12 below the rings' least u or past that plus the period": 10^-12 on each side is not, the next real is
+  not-past : straddles r4 r0 (reaches (ofBits binary64 0x4010_0000_0000_0466)) ≡ false
+  past : straddles r4 r0 (reaches (ofBits binary64 0x4010_0000_0000_0467)) ≡ true
+  not-below : straddles r4 r0 (reaches (ofBits binary64 0xbd71_9799_812d_ea11)) ≡ false
+  below : straddles r4 r0 (reaches (ofBits binary64 0xbd71_9799_812d_ea12)) ≡ true
   -- each hole is there, in file order, the second brought back onto the strip
   two-holes : holes plain (givenOf (lowLoop ∷ bored (slot r1 r2 31) ∷ highLoop ∷ bored (slot r5 r6 41) ∷ []))
       ≡ slot r1 r2 31 ∷ slot r1 r2 41 ∷ []
@@ -270,8 +289,13 @@ record Values : Type 0 where
   against-sense-lifted : stripOf (torus false) (rising-at r1 r2) ≡ up-from-falling r2 r5
 
 values : Values
-unfolding stripOf strip heights ladder lowerRing upperRing lowerFirst firstIsLower lift joined holes laid rising shifted leastU greatestU reseam hasStrip acrossSeam onStrip anyStraddles gapOf hasGap cutAnew recut firstPast widestGap gapAlong sorted insert passed usable started start firstServing firstFrom serves serve firstFor laterFor alignedU slidU beginsBackward standsAtTheCut trial beginRingAt alignCuts alignAt turnedOnto nearest firstLeast slideToCut unlessZero turned begun closed leastOf greatestOf meanOf sumOf absOf roundAway plain givenOf only lowLoop highLoop five four slot bored pierced late thirds torus rising-at up-from-rising up-from-falling onto stripShift straddles floorOf add sub mul div neg lt le eq ne ofBits ofInt inner rungs keptAfter near slackOf divisionsFrom division
+unfolding stripOf strip heights ladder lowerRing upperRing lowerFirst firstIsLower lift joined holes laid rising shifted leastU greatestU reseam hasStrip acrossSeam onStrip anyStraddles gapOf hasGap cutAnew recut firstPast widestGap gapAlong sorted insert passed usable started start firstServing firstFrom serves serve firstFor laterFor alignedU slidU beginsBackward standsAtTheCut trial beginRingAt alignCuts alignAt turnedOnto nearest firstLeast slideToCut unlessZero turned begun closed leastOf greatestOf meanOf sumOf absOf roundAway plain givenOf only lowLoop highLoop five four further reaches slot bored pierced late thirds torus rising-at up-from-rising up-from-falling onto stripShift straddles floorOf add sub mul div neg lt le eq ne ofBits ofInt inner rungs keptAfter near slackOf divisionsFrom division
 values = record {
+  one-branch = refl;
+  not-past = refl;
+  past = refl;
+  not-below = refl;
+  below = refl;
   two-holes = refl;
   cut-anew = refl;
   no-gap = refl;

@@ -173,8 +173,12 @@ pub record Answers : Type 0 where
   -- the last u of a loop stands in the bytes 161 to 168 and 225 to 232: made near 0, and 2.0, so that the other loop alone wraps
   pub loop-1-alone : judge 61614 (set band 168 0) ≡ refused 9 1
   pub loop-0-alone : judge 61614 (set band 232 64) ≡ refused 9 0
-  -- 8 stands before 9
-  pub open-and-alone : judge 61614 (set (set band 232 64) 320 191) ≡ refused 8 0
+  -- "Checks run in that order": of two that hold, the earlier. Byte 16 makes the first real of the band too large; the last position of loop 0 of the
+  -- other two records stands in the bytes 307 and 297 on.
+  pub 7-before-8 : judge 61614 (set (set band 320 191) 16 127) ≡ refused 7 0
+  pub 8-before-9 : judge 61614 (set (set band 232 64) 320 191) ≡ refused 8 0
+  pub 8-before-10 : judge 61614 (set threeRings 314 191) ≡ refused 8 0
+  pub 8-before-12 : judge 61614 (set strip1025 304 191) ≡ refused 8 0
   pub three-wrap : judge 61614 threeRings ≡ refused 10 3
   pub cylinder-bare : judge 61614 bareCylinder ≡ refused 11 0
   pub cone-bare : judge 61614 (set bareCylinder 1 2) ≡ refused 11 0
@@ -197,7 +201,10 @@ answers = record {
   loop-1-open = refl;
   loop-1-alone = refl;
   loop-0-alone = refl;
-  open-and-alone = refl;
+  7-before-8 = refl;
+  8-before-9 = refl;
+  8-before-10 = refl;
+  8-before-12 = refl;
   three-wrap = refl;
   cylinder-bare = refl;
   cone-bare = refl;

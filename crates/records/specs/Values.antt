@@ -70,6 +70,10 @@ triangle =
 abbrev says : ℕ → List ℕ → Verdict
 says lent s = verdict (conditions lent) s
 
+-- the header of a plane with two loops of 300 points, and no more
+abbrev twice300 : List ℕ
+twice300 = 1 ∷ 0 ∷ 2 ∷ 1 ∷ 1 ∷ 44 ∷ 1 ∷ 44 ∷ 1 ∷ []
+
 pub record Refused : Type 0 where
   pub triangle-long : length triangle ≡ 231
   pub triangle-passes : says 61614 triangle ≡ passes
@@ -94,6 +98,17 @@ pub record Refused : Type 0 where
   pub infinite : says 61614 (set (set triangle 38 255) 37 240) ≡ refuses 7 3
   pub plane-radius : says 61614 (set triangle 86 64) ≡ refuses 7 9
   pub far-out : says 61614 (set triangle 230 66) ≡ refuses 7 27
+  -- a plane of radius -0.0: "Limits are included", and compared as numbers
+  pub minus-zero : says 61614 (set triangle 86 128) ≡ passes
+  -- two loops of 300 points, the second of which passes 512
+  pub running-total : says 61614 twice300 ≡ refuses 5 1
+  -- "Checks run in that order, except that the two halves of 6 stand before 4 and after 5.": of two that hold, the earlier
+  pub 1-before-2 : says 61613 [] ≡ refuses 1 61614
+  pub 2-before-3 : says 61614 (set (set triangle 0 2) 2 17) ≡ refuses 2 0
+  pub 3-before-6 : says 61614 (set (take 5 triangle) 2 17) ≡ refuses 3 17
+  pub 6-before-4 : says 61614 (take 5 triangle) ≡ refuses 6 7
+  pub 4-before-5 : says 61614 (set (set (set twice300 6 3) 7 2) 8 0) ≡ refuses 4 1
+  pub 6-before-7 : says 61614 (set (set triangle 38 127) 37 248 ++ (0 ∷ [])) ≡ refuses 6 231
 
 pub refused-values : Refused
 unfolding verdict tooFewLent wrongByte wrongHeader tooManyLoops endsInCounts tooFewPoints tooManyPoints wrongLength badReal firstBadReal firstFrom number numberAt realAt start bytes real row holds headRange radius second uvRange uRange vRange range ofBits ofFields odd toBits le lt eq neg
@@ -119,6 +134,14 @@ refused-values = record {
   infinite = refl;
   plane-radius = refl;
   far-out = refl;
+  minus-zero = refl;
+  running-total = refl;
+  1-before-2 = refl;
+  2-before-3 = refl;
+  3-before-6 = refl;
+  6-before-4 = refl;
+  4-before-5 = refl;
+  6-before-7 = refl;
 }
 
 -- ---- its result
