@@ -1,14 +1,45 @@
 -- The answer to the bytes that are read is the answer to the whole input.
-use Prim.Native.Nat.{ℕ}
-use mathlib.Core.Path.{_≡_, ap, _∙_}
-use mathlib.Core.List.{List}
-use lib.ListN.{take}
-use Rattle.records.specs.Call.{output}
+use Prim.Native.Nat.{ℕ, _≤_}
+use mathlib.Core.Path.{_≡_, refl, ap, _∙_}
+use mathlib.Core.List.{List, []}
+use native.Mathlib.Omega.{arith}
+use borrow.Author.Tests.{le-leb}
+use lib.ListN.{length, take}
+use Rattle.lists.specs.Placed.{placed}
+use Rattle.lists.proofs.Placed.{length-placed, front-placed}
+use Rattle.records.specs.Bytes.{bytes}
+use Rattle.records.specs.Call.{Outcome, refused, closed, output}
 use Rattle.records.specs.Limits.{resultBytes}
 use Rattle.judgement.specs.Judge.{judge}
+use Rattle.judgement.proofs.Demands.{complete}
 use Rattle.judgement.proofs.Places.{prefix-alike}
+use Rattle.answers.specs.Written.{written, writtenLength}
 
-pub of-all : (lent : ℕ) (read input : List ℕ) {front : List ℕ} → front ≡ output (judge lent read) → lent ≡ resultBytes → read ≡ take 20622 input
-    → front ≡ output (judge resultBytes input)
-of-all lent read input f l r =
-    f ∙ ap (λ (n : ℕ). output (judge n read)) l ∙ ap (λ (s : List ℕ). output (judge resultBytes s)) r ∙ ap output (prefix-alike resultBytes input)
+-- what is to be written fits where a call has all the bytes that it asks for
+fits : (s : List ℕ) (o : Outcome) → judge resultBytes s ≡ o → length (output o) ≤ resultBytes
+unfolding bytes
+fits s (refused number place) e = omega arith
+fits s (closed result) e = complete resultBytes s result e [] .fits
+
+-- so many bytes were lent, r is answered, and the lent bytes, which were `old`, are `new`
+module _ (s old : List ℕ) (full : length old ≡ resultBytes) {r : ℕ} {new : List ℕ} (answered : r ≡ writtenLength (judge (length old) s) old)
+    (left : new ≡ written (judge (length old) s) old) where
+  abbrev front : List ℕ
+  front = output (judge resultBytes s)
+
+  room : length front ≤ length old
+  room = rw full (fits s (judge resultBytes s) refl)
+
+  whole : r ≡ length front
+  unfolding writtenLength
+  whole = answered ∙ ap (λ (n : ℕ). writtenLength (judge n s) old) full ∙ rw (le-leb (length front) (length old) room)
+
+  laid : new ≡ placed 0 front old
+  laid = left ∙ ap (λ (n : ℕ). written (judge n s) old) full
+
+  pub within : r ≤ length new
+  within = rw (whole, laid, length-placed 0 front old) room
+
+  pub of-all : (input : List ℕ) → s ≡ take 20622 input → take r new ≡ output (judge resultBytes input)
+  of-all input first =
+      rw (whole, laid) (front-placed front old room) ∙ ap (λ (l : List ℕ). output (judge resultBytes l)) first ∙ ap output (prefix-alike resultBytes input)

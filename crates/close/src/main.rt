@@ -47,11 +47,13 @@ fn read_input(fd: i32, bytes: &mut [u8]) -> Input
     Input::Length(done)
 }
 
-// What is to be written of the input that was read so far, at the front of `out`.
-fn answer_input(read: &[u8], out: &mut [u8]) -> usize
+// What is to be written of the input that was read so far, at the front of `out`. It is the answer
+// to every input whose first 20,622 bytes, or all where there are fewer, are those in `read`. `main`
+// lends the bytes that its reads brought, up to the input's end or 20,622 of them: they are these
+// where `read` moves the input's bytes in their order, as POSIX says and no contract can.
+fn answer_input(read: &[u8], out: &mut [u8; 61614]) -> usize
     ensures { λ r. ⌜ r ≤ length (now (out .exit)) ⌝ }
-    ensures { λ r. ⌜ (length (now (out .entry)) ≡ resultBytes
-        → (input : List ℕ) → now (read .entry) ≡ take 20622 input → take r (now (out .exit)) ≡ output (judge resultBytes input)) ⌝ }
+    ensures { λ r. ⌜ ((input : List ℕ) → now (read .entry) ≡ take 20622 input → take r (now (out .exit)) ≡ output (judge resultBytes input)) ⌝ }
 {
     write_answer(read, out)
 }

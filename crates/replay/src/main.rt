@@ -4,7 +4,8 @@ mod painted;
 
 ghost use mathlib.Core.Path.{_≡_};
 ghost use mathlib.Core.List.{_∷_, []};
-ghost use Rattle.records.specs.Bytes.{bytes, number};
+ghost use Rattle.records.specs.Bytes.{number};
+use answers::four_bytes;
 use answers::write_refusal;
 use closer::close_face;
 use painted::is_painted;
@@ -21,20 +22,6 @@ fn number(a: u8, b: u8, c: u8, d: u8) -> usize
     ensures { λ r. ⌜ r ≡ number (a ∷ b ∷ c ∷ d ∷ []) ⌝ }
 {
     wide(a) + 256 * (wide(b) + 256 * (wide(c) + 256 * wide(d)))
-}
-
-fn four_bytes(n: usize) -> [u8; 4]
-    ensures { λ r. ⌜ r ≡ bytes 4 n ⌝ }
-{
-    let second = n / 256;
-    let third = second / 256;
-    let fourth = third / 256;
-    [
-        (n % 256) as u8,
-        (second % 256) as u8,
-        (third % 256) as u8,
-        (fourth % 256) as u8,
-    ]
 }
 
 // What is stored of an answer: the length of its bytes, those bytes, and whether all others stayed.

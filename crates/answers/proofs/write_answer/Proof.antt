@@ -1,7 +1,8 @@
 use lib.ListN.{length}
 use borrow.Author.Needs.{needs}
 use Rattle.judgement.specs.Judge.{judge}
-use Rattle.answers.proofs.Front.{closed-front, refused-front}
+use Rattle.answers.proofs.Front.{found-in, closed-written, refused-written}
+use Rattle.answers.proofs.Small.{four-bytes-hold}
 use Rattle.answers.proofs.write_answer.Statement.{statement}
 use Rattle.answers.proofs.write_answer.Tie as tie
 
@@ -23,9 +24,12 @@ same-length c = search needs
 returns : tie.Need-returns
 returns c =
     let given = c .before .before .before .before .before .before .before .before .before .args in
+    let old = given .out .now in
+    let o = judge (length old) (given .face .now) in
     let call = c .before .before .before .before .before .close-face .ensures in
-    let f = closed-front (judge (length (given .out .now)) (given .face .now)) (call .0) (given .out .now) (call .1 .0) (c .before .answer .given .1) (search needs) in
-    (f .0, λ h. f .1)
+    let told = c .before .answer .given .1 in
+    let wrote = closed-written o (call .0) old (call .1 .0) told (search needs) in
+    (wrote .0, (wrote .1, found-in o old (wrote .1) (four-bytes-hold o (given .face .now) old (call .0) (call .1 .1 .0))))
 
 same-length-2 : tie.Need-same-length-2
 same-length-2 c = search needs
@@ -33,9 +37,12 @@ same-length-2 c = search needs
 returns-2 : tie.Need-returns-2
 returns-2 c =
     let given = c .before .before .before .before .before .before .before .before .before .before .before .before .before .args in
+    let old = given .out .now in
+    let o = judge (length old) (given .face .now) in
     let call = c .before .before .before .before .before .before .before .before .before .close-face .ensures in
-    let six = c .before .before .write-refusal .ensures in
-    (six .0, λ h. refused-front (judge (length (given .out .now)) (given .face .now)) (call .0) (c .before .before .before .before .before .answer2 .given .1) (six .1 (search needs)))
+    let told = c .before .before .before .before .before .answer2 .given .1 in
+    let wrote = refused-written o (call .0) old (call .1 .0) told (c .before .before .write-refusal .ensures) in
+    (wrote .0, (wrote .1, found-in o old (wrote .1) (four-bytes-hold o (given .face .now) old (call .0) (call .1 .1 .0))))
 
 pub write-answer-spec : {M : Type 1} → statement M
 write-answer-spec =

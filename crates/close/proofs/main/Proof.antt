@@ -30,9 +30,6 @@ slice-aggregate-answer-input c =
     let w = told (c .before .before .input .given .1) (c .before .before .before .before .before .read-input .ensures) in
     sym (length-take-le _ _ (w .1))
 
-slice-aggregate-answer-input-2 : tie.Need-slice-aggregate-answer-input-2
-slice-aggregate-answer-input-2 c = search needs
-
 answer-input-requires : tie.Need-answer-input-requires
 answer-input-requires c κs = search needs
 
@@ -40,7 +37,7 @@ array-share-prefix-out : tie.Need-array-share-prefix-out
 array-share-prefix-out c = search needs
 
 slice-aggregate-write-all : tie.Need-slice-aggregate-write-all
-slice-aggregate-write-all c = sym (length-take-le _ _ (c .before .before .answer-input .ensures .0))
+slice-aggregate-write-all c = sym (length-take-le _ _ (c .before .answer-input .ensures .0))
 
 write-all-requires : tie.Need-write-all-requires
 write-all-requires c κs = search needs
@@ -59,7 +56,6 @@ main-spec =
     returns
     array-share-prefix-face
     slice-aggregate-answer-input
-    slice-aggregate-answer-input-2
     answer-input-requires
     array-share-prefix-out
     slice-aggregate-write-all

@@ -2,7 +2,7 @@ use mathlib.Core.Path.{sym}
 use lib.ListN.{length}
 use lib.Seq.{length-take-le}
 use Rattle.judgement.specs.Judge.{judge}
-use Rattle.answers.proofs.Front.{closed-front}
+use Rattle.answers.proofs.Front.{wrote-within, closed-fits}
 use borrow.Author.Needs.{needs}
 use Rattle.replay.proofs.answer_face.Statement.{statement}
 use Rattle.replay.proofs.answer_face.Tie as tie
@@ -23,15 +23,17 @@ slice-reshare-prefix-write-stored : tie.Need-slice-reshare-prefix-write-stored
 slice-reshare-prefix-write-stored c =
     let old = c .before .before .before .before .before .before .before .before .before .before .before .paint .last .0 in
     let call = c .before .before .before .before .before .before .before .close-face .ensures in
-    let f = closed-front (judge (length old) (c .before .before .before .before .before .before .before .before .before .before .before .before .before .before .before .args .face .now)) (call .0) old (call .1 .0) (c .before .before .before .answer .given .1) (search needs) in
-    f .0
+    let o =
+    judge (length old) (c .before .before .before .before .before .before .before .before .before .before .before .before .before .before .before .args .face .now) in
+    closed-fits o (call .0) old (call .1 .0) (c .before .before .before .answer .given .1) (search needs)
 
 slice-aggregate-write-stored : tie.Need-slice-aggregate-write-stored
 slice-aggregate-write-stored c =
     let old = c .before .before .before .before .before .before .before .before .before .before .before .before .paint .last .0 in
     let call = c .before .before .before .before .before .before .before .before .close-face .ensures in
-    let f = closed-front (judge (length old) (c .before .before .before .before .before .before .before .before .before .before .before .before .before .before .before .before .args .face .now)) (call .0) old (call .1 .0) (c .before .before .before .before .answer .given .1) (search needs) in
-    sym (length-take-le _ _ (f .0))
+    let o =
+    judge (length old) (c .before .before .before .before .before .before .before .before .before .before .before .before .before .before .before .before .args .face .now) in
+    sym (length-take-le _ _ (closed-fits o (call .0) old (call .1 .0) (c .before .before .before .before .answer .given .1) (search needs)))
 
 write-stored-requires : tie.Need-write-stored-requires
 write-stored-requires c κs = search needs
@@ -49,10 +51,10 @@ is-painted-requires-2 : tie.Need-is-painted-requires-2
 is-painted-requires-2 c κs = search needs
 
 array-share-prefix-six : tie.Need-array-share-prefix-six
-array-share-prefix-six c = search needs
+array-share-prefix-six c = wrote-within _ _ (c .before .before .before .write-refusal .ensures)
 
 slice-aggregate-write-stored-2 : tie.Need-slice-aggregate-write-stored-2
-slice-aggregate-write-stored-2 c = sym (length-take-le _ _ (c .before .before .before .before .write-refusal .ensures .0))
+slice-aggregate-write-stored-2 c = sym (length-take-le _ _ (wrote-within _ _ (c .before .before .before .before .write-refusal .ensures)))
 
 write-stored-requires-2 : tie.Need-write-stored-requires-2
 write-stored-requires-2 c κs = search needs

@@ -1,7 +1,7 @@
 use borrow.Author.Needs.{needs}
 use Rattle.records.specs.Bytes.{bytes}
-use Rattle.replay.proofs.four_bytes.Statement.{statement}
-use Rattle.replay.proofs.four_bytes.Tie as tie
+use Rattle.answers.proofs.four_bytes.Statement.{statement}
+use Rattle.answers.proofs.four_bytes.Tie as tie
 
 cast-t6 : tie.Need-cast-t6
 cast-t6 c = search needs
