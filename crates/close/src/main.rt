@@ -10,6 +10,10 @@ ghost use Rattle.judgement.specs.Judge.{judge};
 ghost use Rattle.close.specs.Input.{Within};
 use answers::write_answer;
 
+// A read is tried so many times where each try is interrupted. Every loop has to end, and nothing
+// says that signals do.
+const TRIES: u32 = 1000;
+
 enum Input {
     // So many bytes are there.
     Length(usize),
@@ -18,9 +22,10 @@ enum Input {
 }
 
 // Reads once, to the bytes from `done` on.
-fn read_more(fd: i32, bytes: &mut [u8], done: usize) -> Input
+fn read_once(fd: i32, bytes: &mut [u8], done: usize) -> Input
     requires { ⌜ done ≤ length (now bytes) ⌝ }
     ensures { λ r. ⌜ Within r done (length (now (bytes .exit))) ⌝ }
+    ensures { λ _. ⌜ take done (now (bytes .exit)) ≡ take done (now (bytes .entry)) ⌝ }
 {
     let got = libc::read(fd, &mut bytes[done..]);
     if got < 0 {
@@ -28,6 +33,25 @@ fn read_more(fd: i32, bytes: &mut [u8], done: usize) -> Input
     }
     let more = io::count(got, &bytes[done..]);
     Input::Length(done + more)
+}
+
+// Reads once, and again where a signal interrupted the read before it moved a byte.
+fn read_more(fd: i32, bytes: &mut [u8], done: usize) -> Input
+    requires { ⌜ done ≤ length (now bytes) ⌝ }
+    ensures { λ r. ⌜ Within r done (length (now (bytes .exit))) ⌝ }
+    ensures { λ _. ⌜ take done (now (bytes .exit)) ≡ take done (now (bytes .entry)) ⌝ }
+{
+    let mut tries = TRIES;
+    while tries > 0 {
+        if let Input::Length(there) = read_once(fd, bytes, done) {
+            return Input::Length(there);
+        }
+        if os::errno() != libc::EINTR {
+            return Input::Failed;
+        }
+        tries -= 1;
+    }
+    Input::Failed
 }
 
 // Reads until the input ends or the bytes are full.

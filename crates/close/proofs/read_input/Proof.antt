@@ -39,14 +39,14 @@ returns-2 c = search needs
 
 loop-less : tie.Need-loop-less Inv-loop μ-loop
 loop-less c =
-    let w = told (c .before .before .there .given .1) (c .before .before .before .before .before .before .read-more .ensures) in
+    let w = told (c .before .before .there .given .1) (c .before .before .before .before .before .before .read-more .ensures .0) in
     let i = c .before .before .before .before .before .before .before .before .before .loop .inv in
     let t = c .if1 .left in
     omega arith
 
 loop-again : tie.Need-loop-again Inv-loop μ-loop
 loop-again c =
-    let w = told (c .before .before .there .given .1) (c .before .before .before .before .before .before .read-more .ensures) in
+    let w = told (c .before .before .there .given .1) (c .before .before .before .before .before .before .read-more .ensures .0) in
     let i = c .before .before .before .before .before .before .before .before .before .loop .inv in
     (search needs, omega arith)
 
