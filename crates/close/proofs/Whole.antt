@@ -40,6 +40,9 @@ module _ (s old : List ℕ) (full : length old ≡ resultBytes) {r : ℕ} {new :
   pub within : r ≤ length new
   within = rw (whole, laid, length-placed 0 front old) room
 
-  pub of-all : (input : List ℕ) → s ≡ take 20622 input → take r new ≡ output (judge resultBytes input)
-  of-all input first =
-      rw (whole, laid) (front-placed front old room) ∙ ap (λ (l : List ℕ). output (judge resultBytes l)) first ∙ ap output (prefix-alike resultBytes input)
+  -- s is as much of the input as there is room for
+  pub of-all : (input : List ℕ) {places : ℕ} → places ≡ 20622 → s ≡ take places input → take r new ≡ output (judge resultBytes input)
+  of-all input enough first =
+      rw (whole, laid) (front-placed front old room)
+      ∙ ap (λ (l : List ℕ). output (judge resultBytes l)) (first ∙ ap (λ (k : ℕ). take k input) enough)
+      ∙ ap output (prefix-alike resultBytes input)

@@ -71,15 +71,18 @@ fn read_input(fd: i32, bytes: &mut [u8]) -> Input
     Input::Length(done)
 }
 
-// What is to be written of the input that was read so far, at the front of `out`. It is the answer
-// to every input whose first 20,622 bytes, or all where there are fewer, are those in `read`. `main`
-// lends the bytes that its reads brought, up to the input's end or 20,622 of them: they are these
-// where `read` moves the input's bytes in their order, as POSIX says and no contract can.
-fn answer_input(read: &[u8], out: &mut [u8; 61614]) -> usize
+// What is to be written of the `n` bytes that were read, at the front of `out`. It is the answer to
+// every input of which these are as many first bytes as `face` has room for, or all where there are
+// fewer. Those are what `read_input` leaves where a read moves the input's bytes in their order and
+// answers 0 only at its end, as POSIX says and no contract can.
+fn answer_input(face: &[u8; 20622], n: usize, out: &mut [u8; 61614]) -> usize
+    requires { ⌜ n ≤ length (now face) ⌝ }
     ensures { λ r. ⌜ r ≤ length (now (out .exit)) ⌝ }
-    ensures { λ r. ⌜ ((input : List ℕ) → now (read .entry) ≡ take 20622 input → take r (now (out .exit)) ≡ output (judge resultBytes input)) ⌝ }
+    ensures { λ r. ⌜ ((input : List ℕ) → take n (now (face .entry)) ≡ take (length (now (face .entry))) input
+        → take r (now (out .exit)) ≡ output (judge resultBytes input)) ⌝ }
 {
-    write_answer(read, out)
+    let bytes: &[u8] = face;
+    write_answer(&bytes[..n], out)
 }
 
 // The longest record that is accepted has 20,621 bytes. Of an input one byte more is read, and the
@@ -91,6 +94,6 @@ fn main() {
         return;
     };
     let mut out = [0u8; 61614];
-    let length = answer_input(&face[..n], &mut out);
+    let length = answer_input(&face, n, &mut out);
     io::write_all(1, &out[..length]);
 }

@@ -1,23 +1,28 @@
-use mathlib.Core.Path.{_≡_}
-use lib.ListN.{length}
+use mathlib.Core.Path.{_≡_, sym}
+use lib.ListN.{length, take}
+use lib.Seq.{length-take-le}
 use borrow.Author.Needs.{needs}
 use Rattle.records.specs.Limits.{resultBytes}
 use Rattle.close.proofs.Whole.{within, of-all}
 use Rattle.close.proofs.answer_input.Statement.{statement}
 use Rattle.close.proofs.answer_input.Tie as tie
 
+slice-aggregate-write-answer : tie.Need-slice-aggregate-write-answer
+slice-aggregate-write-answer c = sym (length-take-le _ _ (c .before .before .pre))
+
 write-answer-requires : tie.Need-write-answer-requires
 write-answer-requires c κs = search needs
 
 returns : tie.Need-returns
 returns c =
-    let given = c .before .before .before .args in
+    let given = c .before .before .before .before .args in
+    let read = take (given .n) (given .face .now) in
+    let old = given .out .now in
     let answered = c .write-answer .ensures in
-    let full : length (given .out .now) ≡ resultBytes = search needs in
-    let of = answered .1 in (
-      within (given .read .now) (given .out .now) full (answered .0) (of .0),
-      of-all (given .read .now) (given .out .now) full (answered .0) (of .0),
-    )
+    let left = answered .1 .0 in
+    let full : length old ≡ resultBytes = search needs in
+    let enough : length (given .face .now) ≡ 20622 = search needs in
+    (within read old full (answered .0) left, λ input first. of-all read old full (answered .0) left input enough first)
 
 pub answer-input-spec : {M : Type 1} → statement M
-answer-input-spec = tie.close (tie.spec write-answer-requires returns)
+answer-input-spec = tie.close (tie.spec slice-aggregate-write-answer write-answer-requires returns)

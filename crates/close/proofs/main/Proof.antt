@@ -20,18 +20,10 @@ enum-told c = search needs
 returns : tie.Need-returns
 returns c = search needs
 
-array-share-prefix-face : tie.Need-array-share-prefix-face
-array-share-prefix-face c =
-    let w = told (c .before .input .given .1) (c .before .before .before .before .read-input .ensures) in
-    w .1
-
-slice-aggregate-answer-input : tie.Need-slice-aggregate-answer-input
-slice-aggregate-answer-input c =
-    let w = told (c .before .before .input .given .1) (c .before .before .before .before .before .read-input .ensures) in
-    sym (length-take-le _ _ (w .1))
-
 answer-input-requires : tie.Need-answer-input-requires
-answer-input-requires c κs = search needs
+answer-input-requires c κs =
+    let w = told (c .before .before .before .input .given .1) (c .before .before .before .before .before .before .read-input .ensures) in
+    w .1
 
 array-share-prefix-out : tie.Need-array-share-prefix-out
 array-share-prefix-out c = search needs
@@ -54,8 +46,6 @@ main-spec =
     enum-known-input
     enum-told
     returns
-    array-share-prefix-face
-    slice-aggregate-answer-input
     answer-input-requires
     array-share-prefix-out
     slice-aggregate-write-all

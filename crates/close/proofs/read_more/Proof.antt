@@ -38,7 +38,9 @@ same-length-2 : tie.Need-same-length-2 Inv-loop μ-loop
 same-length-2 c = search needs
 
 returns-2 : tie.Need-returns-2 Inv-loop μ-loop
-returns-2 c = (search needs, c .before .before .before .before .before .before .read-once .ensures .1 ∙ c .before .before .before .before .before .before .before .before .before .loop .inv .1)
+returns-2 c =
+    let once = c .before .before .before .before .before .before .read-once .ensures in
+    (search needs, once .1 ∙ c .before .before .before .before .before .before .before .before .before .loop .inv .1)
 
 sub-tries : tie.Need-sub-tries Inv-loop μ-loop
 sub-tries c = search needs
@@ -47,7 +49,9 @@ loop-less : tie.Need-loop-less Inv-loop μ-loop
 loop-less c = search needs
 
 loop-again : tie.Need-loop-again Inv-loop μ-loop
-loop-again c = (search needs, c .before .before .before .before .before .before .read-once .ensures .1 ∙ c .before .before .before .before .before .before .before .before .before .loop .inv .1)
+loop-again c =
+    let once = c .before .before .before .before .before .before .read-once .ensures in
+    (search needs, once .1 ∙ c .before .before .before .before .before .before .before .before .before .loop .inv .1)
 
 same-length-3 : tie.Need-same-length-3 Inv-loop μ-loop
 same-length-3 c = search needs

@@ -23,7 +23,8 @@ same-length c = search needs
 returns : tie.Need-returns
 returns c =
     let given = c .before .before .before .before .before .before .args in
-    let put = take-put (given .done) (length (given .bytes .now) - given .done) (given .bytes .now) (c .before .before .before .read .last .1 .0) in
+    let put =
+    take-put (given .done) (length (given .bytes .now) - given .done) (given .bytes .now) (c .before .before .before .read .last .1 .0) in
     (search needs, put (c .before .before .before .before .before .before .pre))
 
 sub-count : tie.Need-sub-count
@@ -47,7 +48,8 @@ same-length-2 c = search needs
 returns-2 : tie.Need-returns-2
 returns-2 c =
     let given = c .before .before .before .before .before .before .before .before .before .args in
-    let put = take-put (given .done) (length (given .bytes .now) - given .done) (given .bytes .now) (c .before .before .before .before .before .before .read .last .1 .0) in
+    let put =
+    take-put (given .done) (length (given .bytes .now) - given .done) (given .bytes .now) (c .before .before .before .before .before .before .read .last .1 .0) in
     (search needs, put (c .before .before .before .before .before .before .before .before .before .pre))
 
 pub read-once-spec : {M : Type 1} → statement M
