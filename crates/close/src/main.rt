@@ -10,6 +10,13 @@ ghost use Rattle.judgement.specs.Judge.{judge};
 ghost use Rattle.close.specs.Input.{Within};
 use answers::write_answer;
 
+// The longest record that is accepted has 20,621 bytes. Of an input one byte more is read, and the
+// answer to those is the answer to all of it.
+const READ: usize = 20622;
+
+// The bytes that a call asks to be lent for a result.
+const LENT: usize = 61614;
+
 // A read is tried so many times where each try is interrupted. Every loop has to end, and nothing
 // says that signals do.
 const TRIES: u32 = 1000;
@@ -75,7 +82,7 @@ fn read_input(fd: i32, bytes: &mut [u8]) -> Input
 // every input of which these are as many first bytes as `face` has room for, or all where there are
 // fewer. Those are what `read_input` leaves where a read moves the input's bytes in their order and
 // answers 0 only at its end, as POSIX says and no contract can.
-fn answer_input(face: &[u8; 20622], n: usize, out: &mut [u8; 61614]) -> usize
+fn answer_input(face: &[u8; READ], n: usize, out: &mut [u8; LENT]) -> usize
     requires { ⌜ n ≤ length (now face) ⌝ }
     ensures { λ r. ⌜ r ≤ length (now (out .exit)) ⌝ }
     ensures { λ r. ⌜ ((input : List ℕ) → take n (now (face .entry)) ≡ take (length (now (face .entry))) input
@@ -85,15 +92,13 @@ fn answer_input(face: &[u8; 20622], n: usize, out: &mut [u8; 61614]) -> usize
     write_answer(&bytes[..n], out)
 }
 
-// The longest record that is accepted has 20,621 bytes. Of an input one byte more is read, and the
-// answer to those is the answer to all of it.
 fn main() {
-    let mut face = [0u8; 20622];
+    let mut face = [0u8; READ];
     let input = read_input(0, &mut face);
     let Input::Length(n) = input else {
         return;
     };
-    let mut out = [0u8; 61614];
+    let mut out = [0u8; LENT];
     let length = answer_input(&face, n, &mut out);
     io::write_all(1, &out[..length]);
 }
