@@ -1,8 +1,11 @@
 //! Runs the program `close` on document 01's triangle, on the stored faces, and on inputs that a
-//! pipe or a file may give: in pieces, longer than any record, empty, or not to be read at all.
+//! pipe or a file may give: in pieces, longer than any record, empty, not to be read at all, or
+//! read with interruptions.
 //!
 //!     program CLOSE_PROGRAM FACES_FILE ANSWERS_FILE
 
+#[cfg(all(target_os = "linux", target_arch = "x86_64"))]
+mod interrupted;
 mod triangle;
 
 use std::fs::File;
@@ -45,6 +48,7 @@ fn main() {
         triangle::result().len(),
         stored.len()
     );
+    interruptions(close, &triangle);
 }
 
 fn read(name: &str) -> Vec<u8> {
@@ -120,4 +124,65 @@ fn fed(close: &str, pieces: Vec<Vec<u8>>) -> Vec<u8> {
 fn from_folder(close: &str) -> Vec<u8> {
     let folder = File::open("/").expect("a folder");
     Command::new(close).stdin(folder).output().expect("the program runs").stdout
+}
+
+/// Has reads of the triangle's record fail. One that is interrupted is tried again, unless it is
+/// the 1,000th in a row; then, and after any other failure, nothing is written.
+#[cfg(all(target_os = "linux", target_arch = "x86_64"))]
+fn interruptions(close: &str, face: &[u8]) {
+    use interrupted::{EINTR, EIO, Reading};
+    let (front, back) = face.split_at(100);
+    let gives = |bytes| vec![Reading::Gives(bytes)];
+    let fails = |error, times| vec![Reading::Fails(error); times];
+    let most = || fails(EINTR, 999);
+    let (result, nothing) = (triangle::result(), vec![]);
+    let cases = [
+        ("3 interruptions first", vec![fails(EINTR, 3), gives(face)], &result),
+        ("an interruption between", vec![gives(front), fails(EINTR, 1), gives(back)], &result),
+        ("an interruption at the end", vec![gives(face), fails(EINTR, 1)], &result),
+        ("999 interruptions", vec![most(), gives(face)], &result),
+        ("999 interruptions twice", vec![most(), gives(front), most(), gives(back)], &result),
+        ("1,000 interruptions", vec![fails(EINTR, 1000), gives(face)], &nothing),
+        ("1,000 between", vec![gives(front), fails(EINTR, 1000), gives(back)], &nothing),
+        ("a read that fails first", vec![fails(EIO, 1), gives(face)], &nothing),
+        ("a read that fails at the end", vec![gives(face), fails(EIO, 1)], &nothing),
+    ];
+    let mut put_in = 0;
+    for (what, readings, expected) in &cases {
+        let Some(failed) = with_failures(close, what, &readings.concat(), expected) else {
+            println!("program: interrupted reads are NOT TESTED: nothing may be traced here");
+            return;
+        };
+        put_in += failed;
+    }
+    println!(
+        "program: {put_in} of its reads made to fail, in {} runs, each as it should",
+        cases.len()
+    );
+}
+
+/// How many reads failed, which must be all that are told; None where the program cannot be traced.
+#[cfg(all(target_os = "linux", target_arch = "x86_64"))]
+fn with_failures(
+    close: &str,
+    what: &str,
+    readings: &[interrupted::Reading],
+    expected: &[u8],
+) -> Option<usize> {
+    let run = interrupted::run(close, readings)?;
+    if !run.ended_well {
+        stop(&format!("{what}: the program was killed, or its status is not 0"));
+    }
+    hold(what, &run.written, expected);
+    let fails = |reading: &&interrupted::Reading| matches!(reading, interrupted::Reading::Fails(_));
+    let told = readings.iter().filter(fails).count();
+    if run.failed != told {
+        stop(&format!("{what}: {} reads were made to fail, not {told}", run.failed));
+    }
+    Some(run.failed)
+}
+
+#[cfg(not(all(target_os = "linux", target_arch = "x86_64")))]
+fn interruptions(_: &str, _: &[u8]) {
+    println!("program: interrupted reads are NOT TESTED: this is not x86-64 Linux");
 }
