@@ -1,5 +1,5 @@
 -- Values of the band path, computed. Positions are letters or numbers here.
-use Prim.Native.Nat.{ℕ, zero, suc, _+_}
+use Prim.Native.Nat.{ℕ, _+_}
 use mathlib.Core.Path.{_≡_, refl, ap}
 use mathlib.Core.Bool.{Bool, true, false}
 use mathlib.Core.List.{List, [], _∷_}
@@ -17,7 +17,7 @@ use Rattle.bands.specs.Corners.{Corner, Corners, us, positions}
 use Rattle.rings.specs.Choices.{leastU, greatestU, firstPast, stripShift, straddles, nearest, firstLeast, firstFrom, serve, beginsBackward, standsAtTheCut}
 use Rattle.rings.specs.Turns.{unlessZero, beginRingAt, turnedOnto, alignAt}
 use Rattle.rings.specs.Starts.{alignedU, slidU, firstFor, laterFor, serves, firstServing, start}
-use Rattle.bands.specs.Given.{Measured, Loop, Given, only, givenOf}
+use Rattle.bands.specs.Given.{Measured, Given, only, givenOf}
 use Rattle.bands.specs.Rings.{Face, rising, shifted, laid, onto, onStrip, anyStraddles, acrossSeam, gapOf, recut, cutAnew, hasStrip, hasGap, reseam, alignCuts, slideToCut, trial, started}
 use Rattle.seam.specs.Gap.{insert, sorted, passed, gapAlong, widestGap, usable}
 use Rattle.surfaces.specs.declared.surface.Period.the-variants.{Every, None}
@@ -203,6 +203,14 @@ late = record {
   holes = [];
 }
 
+-- no start of the first ring serves
+unserved : Face ℕ
+unserved = record {
+  first = corner r2 r1 20 ∷ corner r1 r1 21 ∷ corner r1 r1 22 ∷ corner r6 r1 20 ∷ [];
+  later = corner r0 r0 10 ∷ corner r1 r0 11 ∷ corner r2 r0 12 ∷ corner r4 r0 10 ∷ [];
+  holes = [];
+}
+
 -- ---- walls: three steps of `merge_even`, and a position says where it comes from
 
 pub data Spot : Type 0 where
@@ -263,6 +271,9 @@ record Values : Type 0 where
         later = corner r2 r0 12 ∷ corner r4 r0 10 ∷ corner r4 r0 10 ∷ corner r5·5 r0 11 ∷ [];
         holes = slot r3 r5 31 ∷ slot r4 r5 41 ∷ [];
       }
+  -- Its band: the rings were turned with their repeated last points inside, and so the later ring drops a real corner, 11, as its last (02, N4 mends this).
+  cut-anew-outer : positions (outer plain (pierced (slot r-1 r1 31 ∷ slot r0 r1 41 ∷ [])))
+      ≡ 12 ∷ 10 ∷ 12 ∷ 40 ∷ 50 ∷ 22 ∷ 21 ∷ 20 ∷ 23 ∷ 22 ∷ 50 ∷ 40 ∷ []
   -- a hole from -4 to 1 covers the strip and reaches past it: there is no gap, and the rings stay
   no-gap : reseam r4 (laid r4 (pierced (slot r1 r2 31 ∷ slot r-4 r1 41 ∷ [])))
       ≡ record { first = five; later = four; holes = slot r1 r2 31 ∷ slot r0 r5 41 ∷ [] }
@@ -277,6 +288,13 @@ record Values : Type 0 where
   none-serves : firstServing r4 (r2 ∷ r1 ∷ r1 ∷ r6 ∷ []) (r0 ∷ r1 ∷ r2 ∷ r4 ∷ []) ≡ 3
   fallback-past : start r4 (r2 ∷ r1 ∷ r1 ∷ r6 ∷ []) (r0 ∷ r1 ∷ r2 ∷ r4 ∷ []) ≡ 1
   fallback-first : start r4 (r1 ∷ r1 ∷ r1 ∷ r5 ∷ []) (r0 ∷ r1 ∷ r2 ∷ r4 ∷ []) ≡ 0
+  -- both rings as the fallback begins them
+  fallback-started : started r4 unserved
+      ≡ record {
+        first = corner r1 r1 21 ∷ corner r1 r1 22 ∷ corner r6 r1 20 ∷ corner r5 r1 21 ∷ [];
+        later = corner r1 r0 11 ∷ corner r2 r0 12 ∷ corner r4 r0 10 ∷ corner r5 r0 11 ∷ [];
+        holes = [];
+      }
   -- the wall at the lower ring's first u, upward and downward, is the ladder from the lesser v, to the bit: counted from the greater v its rungs have other bits
   wall-rises : positions (strip thirds (corner r1 r0 (given 1) ∷ []) (corner r2 r1 (given 2) ∷ []))
       ≡ given 1 ∷ given 1 ∷ surface r1 ⅓ ∷ surface r1 ⅔ ∷ given 2 ∷ given 2 ∷ surface r1 ⅔ ∷ surface r1 ⅓ ∷ []
@@ -289,7 +307,7 @@ record Values : Type 0 where
   against-sense-lifted : stripOf (torus false) (rising-at r1 r2) ≡ up-from-falling r2 r5
 
 values : Values
-unfolding stripOf strip heights ladder lowerRing upperRing lowerFirst firstIsLower lift joined holes laid rising shifted leastU greatestU reseam hasStrip acrossSeam onStrip anyStraddles gapOf hasGap cutAnew recut firstPast widestGap gapAlong sorted insert passed usable started start firstServing firstFrom serves serve firstFor laterFor alignedU slidU beginsBackward standsAtTheCut trial beginRingAt alignCuts alignAt turnedOnto nearest firstLeast slideToCut unlessZero turned begun closed leastOf greatestOf meanOf sumOf absOf roundAway plain givenOf only lowLoop highLoop five four further reaches slot bored pierced late thirds torus rising-at up-from-rising up-from-falling onto stripShift straddles floorOf add sub mul div neg lt le eq ne ofBits ofInt inner rungs keptAfter near slackOf divisionsFrom division
+unfolding stripOf strip heights ladder lowerRing upperRing lowerFirst firstIsLower lift joined holes laid rising shifted leastU greatestU reseam hasStrip acrossSeam onStrip anyStraddles gapOf hasGap cutAnew recut firstPast widestGap gapAlong sorted insert passed usable started start firstServing firstFrom serves serve firstFor laterFor alignedU slidU beginsBackward standsAtTheCut trial beginRingAt alignCuts alignAt turnedOnto nearest firstLeast slideToCut unlessZero turned begun closed leastOf greatestOf meanOf sumOf absOf roundAway plain givenOf only lowLoop highLoop five four further reaches slot bored pierced late unserved thirds torus rising-at up-from-rising up-from-falling onto stripShift straddles floorOf add sub mul div neg lt le eq ne ofBits ofInt inner rungs keptAfter near slackOf divisionsFrom division outer dropMerging dropSuccessive dropTrailing keptFrom cutBack
 values = record {
   one-branch = refl;
   not-past = refl;
@@ -298,11 +316,13 @@ values = record {
   below = refl;
   two-holes = refl;
   cut-anew = refl;
+  cut-anew-outer = refl;
   no-gap = refl;
   start-3 = refl;
   none-serves = refl;
   fallback-past = refl;
   fallback-first = refl;
+  fallback-started = refl;
   wall-rises = refl;
   wall-falls = refl;
   with-sense = refl;

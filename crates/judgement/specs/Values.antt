@@ -44,7 +44,7 @@ use Rattle.records.specs.Bytes.{number, numberAt, realAt, uvAt, xyzAt, rowAt, b
 use Rattle.records.specs.Call as Call
 use Rattle.records.specs.Call.{refused, closed, code, value}
 use Rattle.records.specs.Face.{start, counts, parameters, positions}
-use Rattle.records.specs.Limits.{0·0, 0·001, 1·5, holds, headRange, radius, second, uvRange, uRange, vRange, range}
+use Rattle.records.specs.Limits.{0·0, 0·001, 1·5, 10^6, holds, headRange, radius, second, uvRange, uRange, vRange, range}
 use Rattle.records.specs.Refusals.{passes, verdict, firstFrom, tooFewLent, wrongByte, wrongHeader, tooManyLoops, endsInCounts, tooFewPoints, tooManyPoints, wrongLength, badReal, firstBadReal}
 use Rattle.records.specs.Result.{encode, decode, countsIn, cornersIn as cornersBack, resultOf, cornersOf as together, loopPositionsOf}
 use Rattle.records.specs.Values.{triangle, written}
@@ -137,6 +137,15 @@ patchWritten =
     (1 ∷ 0 ∷ 1 ∷ 0 ∷ 4 ∷ 0 ∷ 3 ∷ 0 ∷ [])
     ++ row real (whole 3 ∷ ofBits binary64 0x3fd0_45a1_cac0_8312 ∷ patchUv ++ (holeBack ++ (patchXyz ++ holeXyz)))
 
+-- the triangle with its second corner at u 10^6, the limit of a plane, in the bytes 127 to 134; parameters can be that large
+abbrev wide : List ℕ
+wide = set (set (set (set triangle 131 128) 132 132) 133 46) 134 65
+
+abbrev wideWritten : List ℕ
+wideWritten =
+    (1 ∷ 0 ∷ 0 ∷ 0 ∷ 3 ∷ 0 ∷ [])
+    ++ row real (whole 1500000 ∷ 0·0 ∷ 0·0 ∷ 10^6 ∷ 0·0 ∷ 0·0 ∷ whole 3 ∷ 0·0 ∷ 0·0 ∷ 0·0 ∷ whole 4 ∷ 0·0 ∷ 0·0 ∷ 0·0 ∷ whole 3 ∷ 0·0 ∷ [])
+
 -- three rings in one place
 abbrev threeRings : List ℕ
 threeRings =
@@ -162,6 +171,7 @@ strip1025 = (1 ∷ 3 ∷ 2 ∷ 1 ∷ 1 ∷ 4 ∷ 0 ∷ 3 ∷ 0 ∷ []) ++ row re
 pub record Answers : Type 0 where
   -- "231 bytes in; 134 out"
   pub triangle-closed : judge 61614 triangle ≡ closed written
+  pub wide-closed : judge 61614 wide ≡ closed wideWritten
   pub band-closed : judge 61614 band ≡ closed bandWritten
   pub patch-closed : judge 61614 patch ≡ closed patchWritten
   pub bored-closed : judge 61614 bored ≡ closed boredWritten
@@ -170,6 +180,8 @@ pub record Answers : Type 0 where
   pub zero-as-number : judge 61614 (set band 328 128) ≡ closed bandWritten
   pub loop-0-open : judge 61614 (set band 320 191) ≡ refused 8 0
   pub loop-1-open : judge 61614 (set band 416 191) ≡ refused 8 1
+  -- "first wrapping loop"
+  pub both-open : judge 61614 (set (set band 320 191) 416 191) ≡ refused 8 0
   -- the last u of a loop stands in the bytes 161 to 168 and 225 to 232: made near 0, and 2.0, so that the other loop alone wraps
   pub loop-1-alone : judge 61614 (set band 168 0) ≡ refused 9 1
   pub loop-0-alone : judge 61614 (set band 232 64) ≡ refused 9 0
@@ -180,11 +192,15 @@ pub record Answers : Type 0 where
   pub 8-before-10 : judge 61614 (set threeRings 314 191) ≡ refused 8 0
   pub 8-before-12 : judge 61614 (set strip1025 304 191) ≡ refused 8 0
   pub three-wrap : judge 61614 threeRings ≡ refused 10 3
+  -- a plane has the radius 0, which stands in the bytes 77 to 84
+  pub plane-bare : judge 61614 (set (set (set bareCylinder 1 0) 84 0) 83 0) ≡ refused 11 0
   pub cylinder-bare : judge 61614 bareCylinder ≡ refused 11 0
   pub cone-bare : judge 61614 (set bareCylinder 1 2) ≡ refused 11 0
   -- five steps round the sphere and three up it: 16 corners, 4 + 10 + 40 * 16 bytes
   pub sphere-closed : code (judge 61614 bareSphere) ≡ 0
   pub sphere-long : value (judge 61614 bareSphere) ≡ 654
+  -- a torus has a minor radius too, here 1, in the bytes 85 to 92
+  pub torus-closed : code (judge 61614 (set (set (set bareCylinder 1 4) 92 63) 91 240)) ≡ 0
   -- "1,024 strip points pass, 1,025 refuse"
   pub strip-passes : verdict (allConditions 61614) strip1024 ≡ passes
   pub strip-refused : judge 61614 strip1025 ≡ refused 12 1025
@@ -193,12 +209,14 @@ pub answers : Answers
 unfolding Call.judge verdict tooFewLent wrongByte wrongHeader tooManyLoops endsInCounts tooFewPoints tooManyPoints wrongLength badReal firstBadReal firstFrom number numberAt realAt start bytes real row holds headRange radius second uvRange uRange vRange range ofBits ofFields odd toBits le lt eq neg surfaceOf surfaceIn cornersFrom cornersIn loopsIn measuredIn wrapping loopIn openRing oneRing manyRings openSurface longStrip outerNumber outerLoop closedLoops pathIn resultLoops resultIn encode resultOf together uv xyz uvAt xyzAt rowAt sum counts parameters positions pieces only uPeriod vPeriod outerOf slackOf encloses every passing enclosesOther enclosesOthers enclosingOne lastLargest holesOf rephasedHole rephased moved shiftOf areaOf crossSum crossAt leastOf greatestOf middleOf absOf add sub mul div ofInt netWrap turnsCounted toSigned roundAway endsMeet same stripPoints settingIn givenIn optionsIn senseIn givenOf stripOf strip heights ladder lowerRing upperRing lowerFirst firstIsLower lift joined laid rising shifted leastU greatestU reseam hasStrip acrossSeam onStrip anyStraddles started startOf firstServing startFrom serves serve firstFor laterFor alignedU slidU beginsBackward standsAtTheCut trial beginRingAt alignCuts alignAt turnedOnto nearest firstLeast slideToCut unlessZero turned begun ringClosed meanOf sumOf onto stripShift straddles floorOf ne inner rungs keptAfter near rungSlack divisionsFrom division vStepsOf outer holes dropMerging dropSuccessive dropTrailing keptFrom cutBack loopsFrom wrappedLoops segmentsOf angleStepOf sagAngle ceilOf toUnsigned wholeLoop wholeCorners sidesOf sides uRungs vRungs uSteps vSteps directionStepsOf domainOf sincosOf
 answers = record {
   triangle-closed = refl;
+  wide-closed = refl;
   band-closed = refl;
   patch-closed = refl;
   bored-closed = refl;
   zero-as-number = refl;
   loop-0-open = refl;
   loop-1-open = refl;
+  both-open = refl;
   loop-1-alone = refl;
   loop-0-alone = refl;
   7-before-8 = refl;
@@ -206,10 +224,12 @@ answers = record {
   8-before-10 = refl;
   8-before-12 = refl;
   three-wrap = refl;
+  plane-bare = refl;
   cylinder-bare = refl;
   cone-bare = refl;
   sphere-closed = refl;
   sphere-long = refl;
+  torus-closed = refl;
   strip-passes = refl;
   strip-refused = refl;
 }

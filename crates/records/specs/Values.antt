@@ -1,13 +1,13 @@
 -- The bounds; 01, "Values to hold": the triangle on a plane, its result, and refusals of records that are like it. The prover computes each of them.
 use mathlib.Core.Path.{_≡_, refl}
-use mathlib.Core.Bool.{false}
+use mathlib.Core.Bool.{Bool, true, false, not, _&&_}
 use mathlib.Core.List.{List, [], _∷_, _++_}
-use Prim.Native.Nat.{ℕ}
+use Prim.Native.Nat.{ℕ, _+_, _-_}
 use lib.ListN.{length, set, take}
 use lib.Ieee.{Float, binary64, round, ofBits, toBits, odd, ofFields, le, lt, eq, neg}
 use Rattle.records.specs.Bytes.{number, numberAt, realAt, uvAt, xyzAt, rowAt, bytes, real, uv, xyz, row, sum}
 use Rattle.records.specs.Face.{start}
-use Rattle.records.specs.Limits.{10^9, 10^6, 10^3, 64·0, 1·5, 0·001, 10^-6, 0·0, holds, headRange, radius, second, uvRange, uRange, vRange, range}
+use Rattle.records.specs.Limits.{10^9, 10^6, 10^3, 64·0, 1·5, 0·001, 10^-6, 0·0, plane, cylinder, cone, sphere, torus, holds, headRange, radius, second, uvRange, uRange, vRange, range}
 use Rattle.records.specs.Refusals.{Verdict, passes, refuses, Condition, conditions, verdict, firstFrom, tooFewLent, wrongByte, wrongHeader, tooManyLoops, endsInCounts, tooFewPoints, tooManyPoints, wrongLength, badReal, firstBadReal}
 use Rattle.records.specs.Result.{Result, encode, decode, countsIn, cornersIn}
 use Rattle.records.specs.Call.{judge, output}
@@ -39,12 +39,6 @@ bounds = record {
 
 -- ---- the triangle
 
-abbrev 0·01 : Float
-0·01 = ofBits binary64 0x3f84_7ae1_47ae_147b
-
-abbrev 0·1 : Float
-0·1 = ofBits binary64 0x3fb9_9999_9999_999a
-
 abbrev 1·0 : Float
 1·0 = ofBits binary64 0x3ff0_0000_0000_0000
 
@@ -63,7 +57,7 @@ triangle =
     (1 ∷ 0 ∷ 1 ∷ 1 ∷ 1 ∷ 3 ∷ 0 ∷ [])
     ++ row real (
     0·0 ∷ 0·0 ∷ 0·0 ∷ 0·0 ∷ 0·0 ∷ 1·0 ∷ 1·0 ∷ 0·0 ∷ 0·0 ∷  -- origin, axis, reference direction
-    0·0 ∷ 0·0 ∷ 0·01 ∷ 0·1 ∷  -- radius, second size, sag, angle
+    0·0 ∷ 0·0 ∷ 10^-6 ∷ 0·001 ∷  -- radius, second size, sag, angle
     0·0 ∷ 0·0 ∷ 4·0 ∷ 0·0 ∷ 0·0 ∷ 3·0 ∷  -- (u, v)
     0·0 ∷ 0·0 ∷ 0·0 ∷ 4·0 ∷ 0·0 ∷ 0·0 ∷ 0·0 ∷ 3·0 ∷ 0·0 ∷ [])  -- (x, y, z)
 
@@ -85,7 +79,11 @@ pub record Refused : Type 0 where
   pub sense-2 : says 61614 (set triangle 3 2) ≡ refuses 2 3
   pub segments-0 : says 61614 (set triangle 4 0) ≡ refuses 2 4
   pub segments-65 : says 61614 (set triangle 4 65) ≡ refuses 2 4
+  -- "the first wrong byte"
+  pub two-wrong-bytes : says 61614 (set (set triangle 3 2) 4 0) ≡ refuses 2 3
   pub loops-17 : says 61614 (set triangle 2 17) ≡ refuses 3 17
+  -- 16 loops pass: then the record ends inside its counts
+  pub loops-16 : says 61614 (set (take 5 triangle) 2 16) ≡ refuses 6 37
   pub in-counts : says 61614 (take 6 triangle) ≡ refuses 6 7
   pub two-points : says 61614 (set triangle 5 2) ≡ refuses 4 0
   -- "512 points pass, 513 refuse": with 512 the record is too short, 5 + 2 + 8 (13 + 5 * 512) bytes being needed
@@ -98,6 +96,8 @@ pub record Refused : Type 0 where
   pub infinite : says 61614 (set (set triangle 38 255) 37 240) ≡ refuses 7 3
   pub plane-radius : says 61614 (set triangle 86 64) ≡ refuses 7 9
   pub far-out : says 61614 (set triangle 230 66) ≡ refuses 7 27
+  -- "first real": a plane of radius 2 whose axis is too long
+  pub two-bad-reals : says 61614 (set (set triangle 86 64) 38 127) ≡ refuses 7 3
   -- a plane of radius -0.0: "Limits are included", and compared as numbers
   pub minus-zero : says 61614 (set triangle 86 128) ≡ passes
   -- two loops of 300 points, the second of which passes 512
@@ -123,7 +123,9 @@ refused-values = record {
   sense-2 = refl;
   segments-0 = refl;
   segments-65 = refl;
+  two-wrong-bytes = refl;
   loops-17 = refl;
+  loops-16 = refl;
   in-counts = refl;
   two-points = refl;
   points-512 = refl;
@@ -134,6 +136,7 @@ refused-values = record {
   infinite = refl;
   plane-radius = refl;
   far-out = refl;
+  two-bad-reals = refl;
   minus-zero = refl;
   running-total = refl;
   1-before-2 = refl;
@@ -142,6 +145,70 @@ refused-values = record {
   6-before-4 = refl;
   4-before-5 = refl;
   6-before-7 = refl;
+}
+
+-- ---- the ranges of 7: each limit passes, and the real next to it does not
+
+abbrev above : Float → Float
+above b = ofBits binary64 (toBits binary64 b + 1)
+
+abbrev under : Float → Float
+under b = ofBits binary64 (toBits binary64 b - 1)
+
+-- of a face with three points: u and v of its first point are the reals 13 and 14, its first coordinate is the real 19
+abbrev passing : ℕ → ℕ → Float → Bool
+passing kind i x = holds (range kind 3 i) x
+
+abbrev most : ℕ → ℕ → Float → Bool
+most kind i b = passing kind i b && not (passing kind i (above b))
+
+abbrev least : ℕ → ℕ → Float → Bool
+least kind i b = passing kind i b && not (passing kind i (under b))
+
+-- no real below 0 but -0
+abbrev leastZero : ℕ → ℕ → Bool
+leastZero kind i = passing kind i (neg 0·0) && not (passing kind i (neg (above 0·0)))
+
+abbrev size : ℕ → ℕ → Float → Bool
+size kind i b = most kind i b && (passing kind i (neg b) && not (passing kind i (neg (above b))))
+
+pub record Ranges : Type 0 where
+  pub origin : size cylinder 0 10^9 ≡ true
+  pub reference : size cylinder 8 10^9 ≡ true
+  pub radius-least : (least cylinder 9 10^-6 && (least sphere 9 10^-6 && least torus 9 10^-6)) ≡ true
+  pub radius-most : (most cylinder 9 10^6 && (most sphere 9 10^6 && most torus 9 10^6)) ≡ true
+  pub radius-of-cone : (leastZero cone 9 && most cone 9 10^6) ≡ true
+  pub radius-of-plane : (leastZero plane 9 && most plane 9 0·0) ≡ true
+  pub half-angle : size cone 10 1·5 ≡ true
+  pub minor-radius : (least torus 10 10^-6 && most torus 10 10^6) ≡ true
+  pub no-second-size : (leastZero plane 10 && (most plane 10 0·0 && (most cylinder 10 0·0 && most sphere 10 0·0))) ≡ true
+  pub sag : (least plane 11 10^-6 && most plane 11 10^3) ≡ true
+  pub angle : (least plane 12 0·001 && most plane 12 1·5) ≡ true
+  pub u-of-plane : size plane 13 10^6 ≡ true
+  pub u-of-others : (size cylinder 13 64·0 && (size cone 13 64·0 && (size sphere 13 64·0 && size torus 13 64·0))) ≡ true
+  pub v-of-three : (size plane 14 10^6 && (size cylinder 14 10^6 && size cone 14 10^6)) ≡ true
+  pub v-of-others : (size sphere 14 64·0 && size torus 14 64·0) ≡ true
+  pub position : size sphere 19 10^9 ≡ true
+
+pub ranges : Ranges
+unfolding holds headRange radius second uvRange uRange vRange range ofBits ofFields odd toBits le lt eq neg
+ranges = record {
+  origin = refl;
+  reference = refl;
+  radius-least = refl;
+  radius-most = refl;
+  radius-of-cone = refl;
+  radius-of-plane = refl;
+  half-angle = refl;
+  minor-radius = refl;
+  no-second-size = refl;
+  sag = refl;
+  angle = refl;
+  u-of-plane = refl;
+  u-of-others = refl;
+  v-of-three = refl;
+  v-of-others = refl;
+  position = refl;
 }
 
 -- ---- its result
