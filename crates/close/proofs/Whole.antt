@@ -1,6 +1,6 @@
 -- The answer to the bytes that are read is the answer to the whole input.
 use Prim.Native.Nat.{ℕ, _≤_}
-use mathlib.Core.Path.{_≡_, refl, ap, _∙_}
+use mathlib.Core.Path.{_≡_, refl, ap, _∙_, subst}
 use mathlib.Core.List.{List, []}
 use native.Mathlib.Omega.{arith}
 use borrow.Author.Tests.{le-leb}
@@ -13,7 +13,7 @@ use Rattle.records.specs.Limits.{resultBytes}
 use Rattle.judgement.specs.Judge.{judge}
 use Rattle.judgement.proofs.Demands.{complete}
 use Rattle.judgement.proofs.Places.{prefix-alike}
-use Rattle.answers.specs.Written.{written, writtenLength}
+use Rattle.answers.specs.Written.{written, writtenLength, FoundIn}
 
 -- what is to be written fits where a call has all the bytes that it asks for
 fits : (s : List ℕ) (o : Outcome) → judge resultBytes s ≡ o → length (output o) ≤ resultBytes
@@ -41,8 +41,14 @@ module _ (s old : List ℕ) (full : length old ≡ resultBytes) {r : ℕ} {new :
   within = rw (whole, laid, length-placed 0 front old) room
 
   -- s is as much of the input as there is room for
-  pub of-all : (input : List ℕ) {places : ℕ} → places ≡ 20622 → s ≡ take places input → take r new ≡ output (judge resultBytes input)
-  of-all input enough first =
-      rw (whole, laid) (front-placed front old room)
-      ∙ ap (λ (l : List ℕ). output (judge resultBytes l)) (first ∙ ap (λ (k : ℕ). take k input) enough)
-      ∙ ap output (prefix-alike resultBytes input)
+  module _ (input : List ℕ) {places : ℕ} (enough : places ≡ 20622) (first : s ≡ take places input) where
+    judged-alike : judge resultBytes s ≡ judge resultBytes input
+    judged-alike =
+        ap (judge resultBytes) (first ∙ ap (λ (k : ℕ). take k input) enough) ∙ prefix-alike resultBytes input
+
+    pub of-all : FoundIn (judge (length old) s) old new
+        → (take r new ≡ output (judge resultBytes input)) × FoundIn (judge resultBytes input) old new
+    of-all found = (
+      rw (whole, laid) (front-placed front old room) ∙ ap output judged-alike,
+      subst (λ (o : Outcome). FoundIn o old new) (ap (λ (n : ℕ). judge n s) full ∙ judged-alike) found,
+    )

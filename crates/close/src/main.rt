@@ -7,6 +7,7 @@ ghost use lib.ListN.{length, take};
 ghost use Rattle.records.specs.Call.{output};
 ghost use Rattle.records.specs.Limits.{resultBytes};
 ghost use Rattle.judgement.specs.Judge.{judge};
+ghost use Rattle.answers.specs.Written.{FoundIn};
 ghost use Rattle.close.specs.Input.{Within};
 use answers::write_answer;
 
@@ -78,7 +79,8 @@ fn read_input(fd: i32, bytes: &mut [u8]) -> Input
     Input::Length(done)
 }
 
-// What is to be written of the `n` bytes that were read, at the front of `out`. It is the answer to
+// What is to be written of the `n` bytes that were read, at the front of `out`; of a refusal the place
+// is there whole. It is the answer to
 // every input of which these are as many first bytes as `face` has room for, or all where there are
 // fewer. Those are what `read_input` leaves where a read moves the input's bytes in their order and
 // answers 0 only at its end, as POSIX says and no contract can.
@@ -86,7 +88,7 @@ fn answer_input(face: &[u8; READ], n: usize, out: &mut [u8; LENT]) -> usize
     requires { ⌜ n ≤ length (now face) ⌝ }
     ensures { λ r. ⌜ r ≤ length (now (out .exit)) ⌝ }
     ensures { λ r. ⌜ ((input : List ℕ) → take n (now (face .entry)) ≡ take (length (now (face .entry))) input
-        → take r (now (out .exit)) ≡ output (judge resultBytes input)) ⌝ }
+        → (take r (now (out .exit)) ≡ output (judge resultBytes input)) × FoundIn (judge resultBytes input) (now (out .entry)) (now (out .exit))) ⌝ }
 {
     let bytes: &[u8] = face;
     write_answer(&bytes[..n], out)

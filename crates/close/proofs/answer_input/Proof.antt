@@ -20,9 +20,10 @@ returns c =
     let old = given .out .now in
     let answered = c .write-answer .ensures in
     let left = answered .1 .0 in
+    let found = answered .1 .1 in
     let full : length old ≡ resultBytes = search needs in
     let enough : length (given .face .now) ≡ 20622 = search needs in
-    (within read old full (answered .0) left, λ input first. of-all read old full (answered .0) left input enough first)
+    (within read old full (answered .0) left, λ input first. of-all read old full (answered .0) left input enough first found)
 
 pub answer-input-spec : {M : Type 1} → statement M
 answer-input-spec = tie.close (tie.spec slice-aggregate-write-answer write-answer-requires returns)
