@@ -1,2 +1,2 @@
-// `wrapped_region` of face.rs for two rings: rings, seam and strip. So far its meaning (specs/) and
-// demand 3 of it (proofs/), and no functions.
+// `wrapped_region` of face.rs for two rings: what its rings, seam and strip mean, and demand 3 of the
+// band that they make. No function.

@@ -1,4 +1,4 @@
--- What is stated of the definitions of `numbers` and `surfaces` beyond the values that document 01 stars: listed here so that none of it can go unnoticed.
+-- What is stated of the definitions of `numbers` and `surfaces` beyond the values that document 01 stars: listed here so that a proof of it cannot be deleted alone.
 use Prim.Native.Nat.{ℕ, _^_, _≤_}
 use mathlib.Core.Path.{_≡_}
 use lib.Dec.{T}
