@@ -1,5 +1,5 @@
 -- The two rings and the holes of a face, taken from its loops. The sentences are those of 01, "Bands".
-use Prim.Native.Nat.{ℕ, zero, suc}
+use Prim.Native.Nat.{zero, suc}
 use mathlib.Core.Bool.{Bool, true, false, cond, not}
 use mathlib.Core.List.{List, [], _∷_, map, reverse}
 use lib.IntN.{ℤ, pos, negsuc}

@@ -18,10 +18,9 @@ use Rattle.loops.specs.Steps.{PartialEquivalence}
 use Rattle.loops.proofs.SamePosition.{same-position}
 use Rattle.bands.specs.Band.{outer, holes}
 use Rattle.bands.specs.Corners.{Corners, positions}
-use Rattle.bands.specs.Demand.{Demand3}
 use Rattle.bands.specs.Given.{Measured, only, givenOf}
 use Rattle.bands.proofs.Demand.{holes-as-many, demand3}
-use Rattle.bands.specs.Demand.{Whole}
+use Rattle.bands.specs.Demand.{Whole, Demand3}
 use Rattle.records.specs.Bytes.{sum, byteAt, _<?_, _=?_}
 use Rattle.records.specs.Call.{Outcome, refused, closed, code, value, lentAfter}
 use Rattle.records.specs.Face.{loops}

@@ -10,7 +10,6 @@ use lib.ListN.{getD, take, List·getD-append, List·getD-eq-default}
 use Rattle.records.specs.Accepted.{Accepted}
 use Rattle.records.specs.Bytes.{_<?_}
 use Rattle.records.specs.Call.{refused}
-use Rattle.records.specs.Face.{loops}
 use Rattle.records.specs.Refusals.{nowhere, at, Condition, never, recordConditions}
 use Rattle.records.proofs.Accepted.{accepted-exactly}
 use Rattle.records.proofs.Places.{in-row}

@@ -1,8 +1,8 @@
 -- What holds of every face that the call closes, whatever the conditions after 7 and the face that it makes: the record is as described, enough bytes were
 -- lent, the bytes are read as that face, their length, and that the lent bytes keep their number.
-use mathlib.Core.Path.{_≡_, refl, sym, ap, _∙_}
+use mathlib.Core.Path.{_≡_, refl, ap, _∙_}
 use mathlib.Core.List.{List, [], _∷_, _++_}
-use Prim.Native.Nat.{ℕ, zero, suc, _+_, _*_, _≤_, _<_}
+use Prim.Native.Nat.{ℕ, zero, suc, _+_, _≤_}
 use native.Mathlib.Omega.{arith}
 use lib.ListN.{length, drop, length-append, length-drop}
 use borrow.Author.Tests.{ltb-false}
@@ -12,7 +12,7 @@ use Rattle.records.specs.Refusals.{nowhere, Condition, conditions, recor
 use Rattle.records.specs.Accepted.{Accepted}
 use Rattle.records.specs.Result.{Result, encode, decode, resultLength, holesIn, cornersIn, Writable}
 use Rattle.records.specs.Call.{closed, judge, lentAfter}
-use Rattle.records.proofs.Search.{nowhere≢at, when-fails}
+use Rattle.records.proofs.Search.{when-fails}
 use Rattle.records.proofs.Refused.{verdict-passes, closed-exactly}
 use Rattle.records.proofs.Accepted.{accepted-exactly}
 use Rattle.records.proofs.RoundTrip.{decode-encode, length-read, encode-fits}

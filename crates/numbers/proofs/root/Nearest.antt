@@ -7,7 +7,6 @@ use native.Mathlib.Numerals.{add-one}
 use native.Mathlib.Omega.{arith}
 use native.Mathlib.Decide.{decLe}
 use mathlib.Core.Bool.{false, not}
-use lib.IntN.{ℤ}
 use lib.Dec.{T, isLe, isEq, leb→le, nleb→lt, eqb→eq, lit<, lit≤}
 use lib.Pow.{pow-mono, pow-pos, pow-add}
 use lib.Ieee.{Float, nan, inf, fin, binary64, up, down, fits, size, nearest, units}
