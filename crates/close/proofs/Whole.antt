@@ -6,7 +6,7 @@ use native.Mathlib.Omega.{arith}
 use borrow.Author.Tests.{le-leb}
 use lib.ListN.{length, take}
 use Rattle.lists.specs.Placed.{placed}
-use Rattle.lists.proofs.Placed.{length-placed, front-placed}
+use Rattle.lists.proofs.Placed.{front-placed}
 use Rattle.records.specs.Bytes.{bytes}
 use Rattle.records.specs.Call.{Outcome, refused, closed, output}
 use Rattle.records.specs.Limits.{resultBytes}
@@ -14,6 +14,7 @@ use Rattle.judgement.specs.Judge.{judge}
 use Rattle.judgement.proofs.Demands.{complete}
 use Rattle.judgement.proofs.Places.{prefix-alike}
 use Rattle.answers.specs.Written.{written, writtenLength, FoundIn}
+use Rattle.answers.proofs.Front.{wrote-within}
 
 -- what is to be written fits where a call has all the bytes that it asks for
 fits : (s : List ℕ) (o : Outcome) → judge resultBytes s ≡ o → length (output o) ≤ resultBytes
@@ -38,7 +39,7 @@ module _ (s old : List ℕ) (full : length old ≡ resultBytes) {r : ℕ} {new :
   laid = left ∙ ap (λ (n : ℕ). written (judge n s) old) full
 
   pub within : r ≤ length new
-  within = rw (whole, laid, length-placed 0 front old) room
+  within = wrote-within (judge (length old) s) old (answered, left)
 
   -- s is as much of the input as there is room for
   module _ (input : List ℕ) {places : ℕ} (enough : places ≡ 20622) (first : s ≡ take places input) where

@@ -31,17 +31,17 @@ use Rattle.closer.specs.Stages.{verdictOf}
 use Rattle.closer.proofs.Numbers.{code-is, value-is}
 use Rattle.closer.proofs.Stages.{first-refuse, first-pass}
 
+-- what the contract claims of a pair and of the lent bytes, beside its equations
+abbrev Claims : (s old : List ℕ) (code value : ℕ) (new : List ℕ) → Type 0
+Claims s old code value new = Demand1 s old code value new × (BandDemand s code new × ResultBounded code new)
+
 -- the contract of the call, from what it answers and leaves; the record is one of bytes
 module _ (s old : List ℕ) (byte : Fits w8 (getD s 2 0)) where
   abbrev o : Outcome
   o = judge (length old) s
 
   pub promised : {r : Answer} {new : List ℕ} → AnswersTo o r old new
-      → (r ≡ answerOf o)
-      × ((new ≡ lentAfter o old)
-      × (Demand1 s old (codeOf r) (valueOf r) new
-      × (BandDemand s (codeOf r) new
-      × ResultBounded (codeOf r) new)))
+      → (r ≡ answerOf o) × ((new ≡ lentAfter o old) × Claims s old (codeOf r) (valueOf r) new)
   promised {r} {new} h =
       let c = code-is o r (h .answer) in
       let v = value-is o r (h .answer) in
@@ -51,11 +51,11 @@ module _ (s old : List ℕ) (byte : Fits w8 (getD s 2 0)) where
 
 -- what is promised of an answer, of the two numbers that are told of it
 pub paired : (o : Outcome) (s old : List ℕ) {r : Answer} {new : List ℕ} {number at : ℕ} → number ≡ codeOf r → at ≡ valueOf r
-    → (r ≡ answerOf o) × ((new ≡ lentAfter o old) × (Demand1 s old (codeOf r) (valueOf r) new × (BandDemand s (codeOf r) new × ResultBounded (codeOf r) new)))
-    → (number ≡ code o) × ((at ≡ value o) × ((new ≡ lentAfter o old) × (Demand1 s old number at new × (BandDemand s number new × ResultBounded number new))))
+    → (r ≡ answerOf o) × ((new ≡ lentAfter o old) × Claims s old (codeOf r) (valueOf r) new)
+    → (number ≡ code o) × ((at ≡ value o) × ((new ≡ lentAfter o old) × Claims s old number at new))
 paired o s old {r} {new} n v h = (
   n ∙ code-is o r (h .0),
-  (v ∙ value-is o r (h .0), (h .1 .0, (rw (n, v) (h .1 .1 .0), (rw n (h .1 .1 .1 .0), rw n (h .1 .1 .1 .1))))),
+  (v ∙ value-is o r (h .0), (h .1 .0, rw (n, v) (h .1 .1))),
 )
 
 module _ (old s : List ℕ) where
