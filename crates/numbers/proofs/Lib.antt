@@ -6,4 +6,7 @@ pub mod Monotone
 pub mod Zeros
 pub mod Magnitude
 pub mod Fractions
+pub mod Integers
+pub mod Units
+pub mod Errors
 pub mod Squares

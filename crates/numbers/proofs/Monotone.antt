@@ -201,6 +201,11 @@ div-fin-rounded : (f : Format) (s : Bool) (m : ℕ) (e : ℤ) (n : ℕ) (d : ℤ
 div-fin-rounded f s m e n d =
     rw (div-at f s m e n d, ← keep-mul s (m * up e) (down d), ← turn-mul s (m * up e) (down d)) (quot-rounded f s (m * up e * down d) (suc n * up d * down e))
 
+pub div-rounded : (f : Format) (x c : Float) → T (finite x) → Positive c → Rounded f (div f x c) (plus x * den c) (less x * den c) (plus c * den x)
+div-rounded f nan c p q = absurd p
+div-rounded f (inf s) c p q = absurd p
+div-rounded f (fin s m e) c p q = rw (q .is) (div-fin-rounded f s m e (q .size) (q .expo))
+
 div-cross : (px qx dx py qy dy nc dc : ℕ) → px * dy + qy * dx ≤ py * dx + qx * dy
     → px * dc * (nc * dy) + qy * dc * (nc * dx) ≤ py * dc * (nc * dx) + qx * dc * (nc * dy)
 div-cross px qx dx py qy dy nc dc h = let a = mul-le-mul-right (dc * nc) h in omega arith

@@ -13,3 +13,5 @@ pub mod Vectors
 pub mod Frames
 pub mod Position
 pub mod Within
+pub mod Units
+pub mod Values

@@ -6,6 +6,7 @@ use lib.Ieee.{Float, le}
 use Rattle.numbers.specs.WholeNumbers.{RoundMeans, FloorMeans, CeilMeans}
 use Rattle.numbers.specs.Nearest.{SqrtMeans}
 use Rattle.numbers.specs.Multiples.{ExactMultiples}
+use Rattle.numbers.specs.Units.{UnitsExact, UnitsOrder, UnitsSum, RoundingError, SumError}
 use Rattle.numbers.specs.Within.{Within}
 use Rattle.surfaces.specs.Rungs.{divisions, slackOf, kept, rungs}
 use Rattle.surfaces.specs.Sorting.{sorted}
@@ -19,6 +20,12 @@ pub record Meanings : Type 0 where
   pub sqrt : SqrtMeans
   -- sin and cos, exact at whole multiples of H
   pub sin-cos : ExactMultiples
+  -- reals counted in units of 2 ^ -1074: exactly, in order, and summed wherever nothing is rounded; and how far off one rounding is
+  pub units : UnitsExact
+  pub units-order : UnitsOrder
+  pub units-sum : UnitsSum
+  pub rounding-error : RoundingError
+  pub sum-error : SumError
   -- The Rust sorts the divisions of `merge_even` before it drops those that are near. Up from one bound to another it changes nothing, rounding included.
   pub merge-even : (lo hi : Float) (n : ℕ) → Within (2 ^ 1000) lo → Within (2 ^ 1000) hi → T (le lo hi) → n ≤ 2 ^ 53
       → kept (slackOf lo hi) (sorted (divisions lo hi n)) ≡ rungs lo hi n
