@@ -1,10 +1,12 @@
 -- Both rings where the code puts them.
 use Prim.Native.Nat.{ℕ}
-use mathlib.Core.Path.{_≡_, refl, sym, ap, _∙_}
+use mathlib.Core.Path.{_≡_, refl, sym, ap, _∙_, subst}
 use mathlib.Core.Bool.{Bool, true, false, cond, true≢false}
-use mathlib.Core.List.{List, [], map, reverse}
-use lib.Ieee.{Float}
-use Rattle.loops.specs.Branch.{branchShift}
+use mathlib.Core.List.{List, [], _∷_, map, reverse}
+use lib.Ieee.{Float, binary64, fits}
+use Rattle.numbers.specs.Rounded.{_⊖_}
+use Rattle.loops.specs.Branch.{branchShift, LandsNear}
+use Rattle.loops.proofs.Landing.{moved-answer}
 use Rattle.loops.specs.Rings.{begun}
 use Rattle.rings.specs.Choices.{firstOf, nearest}
 use Rattle.rings.specs.Moves.{movedBy}
@@ -48,9 +50,27 @@ startFound (Found k n b) = k
 startFound NoRoom = 0
 
 module _ (period : Float) where
-  pub shift-is : (least first step : Float) (xs ys : List Float) → first ≡ firstOf xs → step ≡ branchShift first least period → ys ≡ map (movedBy (Down step)) xs → ys ≡ shiftedU period least xs
+  shift-is : (least first step : Float) (xs ys : List Float) → first ≡ firstOf xs → step ≡ branchShift first least period → ys ≡ map (movedBy (Down step)) xs → ys ≡ shiftedU period least xs
   unfolding shiftedU
   shift-is least first step xs ys ef es e = e ∙ (λ i. map (movedBy (Down (es i))) xs) ∙ (λ i. map (movedBy (Down (branchShift (ef i) least period))) xs)
+
+  -- the ring's first point, near the least u; of no points nothing is said
+  first-lands : (least first step : Float) (xs : List Float) → fits binary64 first ≡ true → fits binary64 least ≡ true
+      → first ≡ firstOf xs → step ≡ branchShift first least period
+      → LandsNear (firstOf xs) least period (firstOf (map (movedBy (Down step)) xs))
+  unfolding LandsNear
+  first-lands least first step [] f g ef es = λ e v w. absurd v
+  first-lands least first step (x ∷ xs) f g ef es =
+      let fits-first = subst (λ (y : Float). fits binary64 y ≡ true) ef f in
+      let step-is : step ≡ branchShift x least period = es ∙ ap (λ (y : Float). branchShift y least period) ef in
+      moved-answer x least period (x ⊖ step) fits-first g (ap (λ (y : Float). x ⊖ y) step-is)
+
+  pub shift-answer : (least first step : Float) (xs ys : List Float) → fits binary64 first ≡ true → fits binary64 least ≡ true
+      → first ≡ firstOf xs → step ≡ branchShift first least period → ys ≡ map (movedBy (Down step)) xs
+      → (ys ≡ shiftedU period least xs) × LandsNear (firstOf xs) least period (firstOf ys)
+  shift-answer least first step xs ys f g ef es e =
+      let lands = first-lands least first step xs f g ef es in
+      (shift-is least first step xs ys ef es e, subst (λ (zs : List Float). LandsNear (firstOf xs) least period (firstOf zs)) (sym e) lands)
 
   -- what `begin_rings` answers with t places lent
   abbrev pub Begun : ℕ → ℕ → ℕ → List Float → List Float → List Float → List Float → Placed → Type 0

@@ -3,6 +3,8 @@ ghost use mathlib.Core.Path.{_≡_};
 ghost use mathlib.Core.Bool.{cond};
 ghost use mathlib.Core.List.{[]};
 ghost use lib.ListN.{length};
+ghost use Rattle.loops.specs.Branch.{LandsNear};
+ghost use Rattle.rings.specs.Choices.{firstOf};
 ghost use Rattle.seam.specs.Reseam.{us};
 ghost use Rattle.joining.specs.Joined.{shiftedU, short, startOf, nearestOf, startedU, PlacedAs};
 ghost use Rattle.joining.specs.declared.place.Placed.the-variants.{At, Short};
@@ -33,6 +35,7 @@ pub enum Placed {
 // A ring's u by whole periods toward the least u.
 pub fn shift(u: &mut [f64], least: f64, period: f64)
     ensures { λ _. ⌜ now (u .exit) ≡ shiftedU period least (now (u .entry)) ⌝ }
+    ensures { λ _. ⌜ LandsNear (firstOf (now (u .entry))) least period (firstOf (now (u .exit))) ⌝ }
 {
     let step = branch_shift(first_of(u), least, period);
     move_all(u, Move::Down(step));

@@ -8,3 +8,4 @@ pub mod StripLaw
 pub mod Projections
 pub mod SamePosition
 pub mod Trailing
+pub mod Landing

@@ -3,6 +3,8 @@ ghost use mathlib.Core.Path.{_≡_};
 ghost use mathlib.Core.Bool.{_&&_};
 ghost use lib.Ieee.{nan, eq};
 ghost use Rattle.numbers.specs.Constants.{plusZero};
+ghost use Rattle.loops.specs.Branch.{LeavesHalf};
+ghost use Rattle.loops.specs.Span.{middleOf};
 ghost use Rattle.regions.specs.Rephase.{arrays, loopAt, withPart, shiftOf, moved, rephased, branchAt, rephaseLoop, rephaseHoles};
 use super::boxes::loop_count;
 use loops::area::signed_area;
@@ -25,6 +27,7 @@ pub struct Branch {
 // What is added to a hole's parameters.
 pub fn hole_shift(xs: &[f64], mid: f64, period: f64) -> f64
     ensures { λ r. ⌜ r ≡ shiftOf mid period (now (xs .entry)) ⌝ }
+    ensures { λ r. ⌜ LeavesHalf mid (middleOf (now (xs .entry))) period r ⌝ }
 {
     if period > 0.0 {
         return round((mid - middle(xs)) / period) * period;

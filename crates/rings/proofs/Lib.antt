@@ -2,3 +2,4 @@ pub mod Carried
 pub mod Lengths
 pub mod Turning
 pub mod Decisions
+pub mod Shifts

@@ -1,5 +1,7 @@
 // What a band decides by the u of its loops alone.
 ghost use mathlib.Core.Path.{_≡_};
+ghost use Rattle.loops.specs.Branch.{LeavesTurn};
+ghost use Rattle.loops.specs.Span.{leastOf};
 ghost use Rattle.rings.specs.Choices.{leastU, greatestU, firstOf, beginsBackward, stripShift, straddles, firstPast, offset, nearest, onSeam, stepStands, standsAtTheCut, serve};
 use loops::span::greatest;
 use loops::span::least;
@@ -43,6 +45,7 @@ pub fn begins_backward(u: &[f64]) -> bool
 // The whole periods by which a hole lies past the strip's begin.
 pub fn strip_shift(u: &[f64], lo: f64, period: f64) -> f64
     ensures { λ r. ⌜ r ≡ stripShift period lo (now (u .entry)) ⌝ }
+    ensures { λ r. ⌜ LeavesTurn (leastOf (now (u .entry))) lo period r ⌝ }
 {
     floor((least(u) - lo) / period) * period
 }

@@ -25,7 +25,7 @@ same-length : tie.Need-same-length
 same-length c = search needs
 
 returns : tie.Need-returns
-returns c = laws.put-to _ _ _ _ _ _ _ _ _ (c .before .before .before .before .before .before .before .before .before .before .before .before .before .nearest .ensures) (c .before .before .before .before .before .before .before .before .before .before .before .at .ensures) (c .before .before .before .before .before .before .before .before .before .before .branch-shift .ensures)
+returns c = laws.put-to _ _ _ _ _ _ _ _ _ (c .before .before .before .before .before .before .before .before .before .before .before .before .before .nearest .ensures) (c .before .before .before .before .before .before .before .before .before .before .before .at .ensures) (c .before .before .before .before .before .before .before .before .before .before .branch-shift .ensures .0)
     (c .before .before .before .before .before .before .before .before .align-at .ensures) (c .before .before .before .before .first-of .ensures) (c .before .before .move-unless-zero .ensures)
 
 pub later-for-spec : {M : Type 1} → statement M

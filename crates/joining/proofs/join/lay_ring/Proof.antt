@@ -39,7 +39,7 @@ same-length-5 c = search needs
 
 returns : tie.Need-returns
 returns c = record {
-  u-is = c .before .before .shift .ensures ∙ ap (shiftedU _ _) (c .before .before .before .before .before .before .before .before .before .before .before .before .before .before .before .before .before .before .before .before .before .before .rise .ensures);
+  u-is = c .before .before .shift .ensures .0 ∙ ap (shiftedU _ _) (c .before .before .before .before .before .before .before .before .before .before .before .before .before .before .before .before .before .before .before .before .before .before .rise .ensures);
   v-is = c .before .before .before .before .before .before .before .before .before .before .before .before .before .before .before .before .before .before .rise2 .ensures;
   x-is = c .before .before .before .before .before .before .before .before .before .before .before .before .before .before .rise3 .ensures;
   y-is = c .before .before .before .before .before .before .before .before .before .before .rise4 .ensures;

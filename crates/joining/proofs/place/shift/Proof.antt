@@ -1,4 +1,4 @@
-use Rattle.joining.proofs.Placing.{shift-is}
+use Rattle.joining.proofs.Placing.{shift-answer}
 use borrow.Author.Needs.{needs}
 use Rattle.joining.proofs.place.shift.Statement.{statement}
 use Rattle.joining.proofs.place.shift.Tie as tie
@@ -16,7 +16,10 @@ same-length : tie.Need-same-length
 same-length c = search needs
 
 returns : tie.Need-returns
-returns c = search (shift-is, needs)
+returns c =
+    let first = c .before .before .before .before .before .first-of in
+    let good = c .before .before .before .before .before .before .before .before .good in
+    shift-answer _ _ _ _ _ _ (first .ok) (good .1 .0 .1) (first .ensures) (c .before .before .before .before .branch-shift .ensures .0) (c .before .before .move-all .ensures)
 
 pub shift-spec : {M : Type 1} → statement M
 shift-spec =

@@ -1,4 +1,4 @@
-use Rattle.regions.specs.Rephase.{shiftOf}
+use Rattle.regions.proofs.rephase.Shifts.{hole-answer, open-answer}
 use borrow.Author.Needs.{needs}
 use Rattle.regions.proofs.rephase.hole_shift.Statement.{statement}
 use Rattle.regions.proofs.rephase.hole_shift.Tie as tie
@@ -10,12 +10,12 @@ round-requires : tie.Need-round-requires
 round-requires c κs = search needs
 
 returns : tie.Need-returns
-unfolding shiftOf
-returns c = rw (c .before .before .if1 .taken, c .round .ensures, c .before .middle .ensures)
+returns c =
+    let middle = c .before .middle in
+    hole-answer _ _ _ _ _ (c .before .before .before .before .good .1 .0 .1) (middle .ok) (c .before .before .if1 .taken) (middle .ensures) (c .round .ensures)
 
 returns-2 : tie.Need-returns-2
-unfolding shiftOf
-returns-2 c = rw (c .if1 .left)
+returns-2 c = open-answer _ _ _ (c .if1 .left)
 
 pub hole-shift-spec : {M : Type 1} → statement M
 hole-shift-spec = tie.close (tie.spec middle-requires round-requires returns returns-2)

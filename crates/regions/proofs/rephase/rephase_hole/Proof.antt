@@ -25,7 +25,7 @@ same-length-2 : tie.Need-same-length-2
 same-length-2 c = search needs
 
 returns : tie.Need-returns
-returns c = hole-stays _ _ _ _ _ _ _ _ (c .before .before .before .before .before .before .part .ensures) (c .before .before .before .part2 .ensures) _ _ (c .before .before .before .before .before .hole-shift .ensures) (c .before .before .hole-shift2 .ensures) _ (c .before .stays .ensures) (c .if1 .taken)
+returns c = hole-stays _ _ _ _ _ _ _ _ (c .before .before .before .before .before .before .part .ensures) (c .before .before .before .part2 .ensures) _ _ (c .before .before .before .before .before .hole-shift .ensures .0) (c .before .before .hole-shift2 .ensures .0) _ (c .before .stays .ensures) (c .if1 .taken)
 
 move-hole-requires : tie.Need-move-hole-requires
 move-hole-requires c κs = search needs
@@ -37,7 +37,7 @@ same-length-4 : tie.Need-same-length-4
 same-length-4 c = search needs
 
 returns-2 : tie.Need-returns-2
-returns-2 c = hole-moves _ _ _ _ _ _ _ _ (c .before .before .before .before .before .before .before .before .before .before .before .before .before .part .ensures) (c .before .before .before .before .before .before .before .before .before .before .part2 .ensures) _ _ (c .before .before .before .before .before .before .before .before .before .before .before .before .hole-shift .ensures) (c .before .before .before .before .before .before .before .before .before .hole-shift2 .ensures) _ (c .before .before .before .before .before .before .before .before .stays .ensures) _ _ _ (c .before .before .before .before .before .before .before .if1 .left) (c .before .before .before .before .move-hole .ensures)
+returns-2 c = hole-moves _ _ _ _ _ _ _ _ (c .before .before .before .before .before .before .before .before .before .before .before .before .before .part .ensures) (c .before .before .before .before .before .before .before .before .before .before .part2 .ensures) _ _ (c .before .before .before .before .before .before .before .before .before .before .before .before .hole-shift .ensures .0) (c .before .before .before .before .before .before .before .before .before .hole-shift2 .ensures .0) _ (c .before .before .before .before .before .before .before .before .stays .ensures) _ _ _ (c .before .before .before .before .before .before .before .if1 .left) (c .before .before .before .before .move-hole .ensures)
 
 pub rephase-hole-spec : {M : Type 1} → statement M
 rephase-hole-spec =

@@ -1,4 +1,4 @@
-use Rattle.rings.specs.Choices.{stripShift}
+use Rattle.rings.proofs.Shifts.{strip-answer}
 use borrow.Author.Needs.{needs}
 use Rattle.rings.proofs.choices.strip_shift.Statement.{statement}
 use Rattle.rings.proofs.choices.strip_shift.Tie as tie
@@ -10,8 +10,9 @@ floor-requires : tie.Need-floor-requires
 floor-requires c κs = search needs
 
 returns : tie.Need-returns
-unfolding stripShift
-returns c = cc
+returns c =
+    let least = c .before .least in
+    strip-answer _ _ _ _ _ (least .ok) (c .before .before .before .good .1 .0 .1) (least .ensures) (c .floor .ensures)
 
 pub strip-shift-spec : {M : Type 1} → statement M
 strip-shift-spec = tie.close (tie.spec least-requires floor-requires returns)

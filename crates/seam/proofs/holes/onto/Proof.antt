@@ -13,7 +13,7 @@ same-length : tie.Need-same-length
 same-length c = search needs
 
 returns : tie.Need-returns
-returns c = onto-is _ _ _ _ _ (c .before .before .before .before .strip-shift .ensures) (c .before .before .move-unless-zero .ensures)
+returns c = onto-is _ _ _ _ _ (c .before .before .before .before .strip-shift .ensures .0) (c .before .before .move-unless-zero .ensures)
 
 pub onto-spec : {M : Type 1} → statement M
 onto-spec = tie.close (tie.spec strip-shift-requires move-unless-zero-requires same-length returns)
