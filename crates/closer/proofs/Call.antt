@@ -33,7 +33,7 @@ use Rattle.closer.proofs.Stages.{first-refuse, first-pass}
 
 -- what the contract claims of a pair and of the lent bytes, beside its equations
 abbrev Claims : (s old : List ℕ) (code value : ℕ) (new : List ℕ) → Type 0
-Claims s old code value new = Demand1 s old code value new × (BandDemand s code new × ResultBounded code new)
+Claims s old code value new = Demand1 s old code value new × (BandDemand s code new × ResultBounded s code new)
 
 -- the contract of the call, from what it answers and leaves; the record is one of bytes
 module _ (s old : List ℕ) (byte : Fits w8 (getD s 2 0)) where

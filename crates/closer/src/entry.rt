@@ -36,7 +36,7 @@ pub extern "C" fn closer_close_face(record: &[u8], result: &mut [u8], value: &mu
     ensures { λ _. ⌜ now (result .exit) ≡ lentAfter (judge (length (now (result .entry))) (now («record» .entry))) (now (result .entry)) ⌝ }
     ensures { λ r. ⌜ Demand1 (now («record» .entry)) (now (result .entry)) r (now (value .exit)) (now (result .exit)) ⌝ }
     ensures { λ r. ⌜ BandDemand (now («record» .entry)) r (now (result .exit)) ⌝ }
-    ensures { λ r. ⌜ ResultBounded r (now (result .exit)) ⌝ }
+    ensures { λ r. ⌜ ResultBounded (now («record» .entry)) r (now (result .exit)) ⌝ }
 {
     let answer = close_face(record, result);
     *value = value_of(answer);

@@ -28,7 +28,7 @@ pub fn close_face(record: &[u8], result: &mut [u8]) -> Answer
     ensures { λ _. ⌜ now (result .exit) ≡ lentAfter (judge (length (now (result .entry))) (now («record» .entry))) (now (result .entry)) ⌝ }
     ensures { λ r. ⌜ Demand1 (now («record» .entry)) (now (result .entry)) (codeOf r) (valueOf r) (now (result .exit)) ⌝ }
     ensures { λ r. ⌜ BandDemand (now («record» .entry)) (codeOf r) (now (result .exit)) ⌝ }
-    ensures { λ r. ⌜ ResultBounded (codeOf r) (now (result .exit)) ⌝ }
+    ensures { λ r. ⌜ ResultBounded (now («record» .entry)) (codeOf r) (now (result .exit)) ⌝ }
 {
     if result.len() < 61614 {
         return Answer::Refused {

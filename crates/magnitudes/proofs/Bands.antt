@@ -1,9 +1,10 @@
 -- Bands: the strip's corners and the holes have bounded parameters, positions and areas.
-use Prim.Native.Nat.{ℕ, _^_, _≤_}
+use Prim.Native.Nat.{ℕ, _+_, _*_, _^_, _≤_, _<_, max}
 use mathlib.Core.Path.{_≡_, sym, ap, subst}
 use mathlib.Core.Logic.{_⊎_, inl, inr}
 use mathlib.Core.Bool.{Bool, true, false, cond, not, _&&_}
 use mathlib.Core.List.{List, [], _∷_}
+use native.Mathlib.Nat.{lt-of-le-of-lt, mul-le-mul}
 use native.Mathlib.Omega.{arith}
 use borrow.Author.Tests.{eq-eqb}
 use lib.Dec.{lit<, lit≤}
@@ -31,7 +32,7 @@ use Rattle.bands.specs.Strip.{Setting, ladder, heights, wall, strip}
 use Rattle.records.specs.Accepted.{Accepted}
 use Rattle.records.specs.Face.{kind, realOf}
 use Rattle.records.specs.Limits.{plane}
-use Rattle.records.specs.Result.{All, none, and}
+use Rattle.records.specs.Result.{All, and}
 use Rattle.judgement.specs.Face.{frameIn, surfaceOf, surfaceIn, optionsIn, periodLength, loopsIn, wrapOf, measuredIn, isWrapping, wrapping, settingIn, givenIn}
 use Rattle.judgement.proofs.Each.{all-first, all-append, all-drop, all-dropLast, all-reverse, all-if, all-map, all-so, all-dropRepeats}
 use Rattle.judgement.proofs.Loops.{loops-fit, given-each}
@@ -39,8 +40,8 @@ use Rattle.judgement.proofs.Rings.{EachGiven, pick-each, holes-each}
 use Rattle.judgement.proofs.Sizes.{only-none}
 use Rattle.judgement.proofs.Strips.{High, steps-few}
 use Rattle.magnitudes.proofs.Closed.{SizedCorners}
-use Rattle.magnitudes.proofs.Loops.{rungs-each-within}
-use Rattle.magnitudes.proofs.Record.{Million, Sized, either-u, either-v, frame-framed, sizes-in}
+use Rattle.magnitudes.proofs.Loops.{all-both, Known, rungs-each-within}
+use Rattle.magnitudes.proofs.Record.{Million, Turned, Sized, either-u, either-v, frame-framed, sizes-in}
 use Rattle.magnitudes.proofs.Rings.{Reach, Reaches, GivenReach, started-reach}
 
 -- ---- a face of which a loop wraps: u comes round by TAU, and the surface is curved
@@ -71,53 +72,59 @@ module _ (s : List ℕ) where
     unfolding surfaceIn
     curved e = some (open-none (plane-open (kind s) (realOf s 9) (realOf s 10) e))
 
--- ---- lists
-
-pub both : {A : Type 0} {P Q : A → Type 0} {xs : List A} → All P xs → All Q xs → All (λ (a : A). P a × Q a) xs
-both none none = none
-both (and p ps) (and q qs) = and (p, q) (both ps qs)
-
 -- ---- v: an upper ring is lifted by at most one turn
 
-lift-within : (p : Period) → (p ≡ None) ⊎ (p ≡ Every TAU) → (withL withU : Bool) (meanL meanU v : Float) → Within Million v → Within 1000007 (lift p withL withU meanL meanU v)
+lift-within : (H : ℕ) → H ≤ Million → (p : Period) → (p ≡ None) ⊎ (p ≡ Every TAU) → (withL withU : Bool) (meanL meanU v : Float) → Within H v
+    → Within (H + 7) (lift p withL withU meanL meanU v)
 unfolding lift
-lift-within p (inl e) withL withU meanL meanU v h = subst (λ (q : Period). Within 1000007 (lift q withL withU meanL meanU v)) (sym e) (within-more Million 1000007 v (lit≤ tt) h)
-lift-within p (inr e) withL withU meanL meanU v h = subst (λ (q : Period). Within 1000007 (lift q withL withU meanL meanU v)) (sym e) (at-lift (withL && (not withU && lt meanU meanL)))
+lift-within H few p (inl e) withL withU meanL meanU v h = subst (λ (q : Period). Within (H + 7) (lift q withL withU meanL meanU v)) (sym e) (within-more H (H + 7) v (omega arith) h)
+lift-within H few p (inr e) withL withU meanL meanU v h = subst (λ (q : Period). Within (H + 7) (lift q withL withU meanL meanU v)) (sym e) (at-lift (withL && (not withU && lt meanU meanL)))
   where
-    at-lift : (t : Bool) → Within 1000007 (cond t (v ⊕ TAU) v)
-    at-lift true = add-within Million 7 v TAU (held-small 1000007 (lit< tt)) h turn-within
-    at-lift false = within-more Million 1000007 v (lit≤ tt) h
+    at-lift : (t : Bool) → Within (H + 7) (cond t (v ⊕ TAU) v)
+    at-lift true = add-within H 7 v TAU (held-small (H + 7) (omega arith)) h turn-within
+    at-lift false = within-more H (H + 7) v (omega arith) h
 
-module _ (s : List ℕ) (a : Accepted s) where
+-- v is given up to H, and no rung passes B
+module _ (s : List ℕ) (a : Accepted s) (H B : ℕ) (given : H ≤ Million) (room : 3 * (H + 7) ≤ B) (most : B ≤ 2 ^ 22) where
   abbrev S : Setting Vec3
   S = settingIn s
 
+  abbrev R : ℕ
+  R = H + 7
+
   -- a wall's v: the lesser end, and at most the width more
-  heights-within : (x y : Float) → Within 1000007 x → Within 1000007 y → High s a x → High s a y → All (Within 3000021) (heights (S .rungs) (S .steps) x y)
+  heights-within : (x y : Float) → Within R x → Within R y → High s a x → High s a y → All (Within B) (heights (S .rungs) (S .steps) x y)
   unfolding heights ladder inner settingIn
   heights-within x y p q h k =
       let lo = minOf x y in
       let hi = maxOf x y in
       let n = vStepsOf (surfaceIn s) lo hi (optionsIn s) in
       let few : n ≤ 142000 = steps-few s a x y h k in
-      let low = min-within 1000007 x y p q in
-      let wide = sub-within 1000007 1000007 hi lo (held-small 2000014 (lit< tt)) (max-within 1000007 x y p q) low in
-      let rungs-are = rungs-each-within 1000007 2000014 n lo hi low wide (omega arith) (omega arith) (lit< tt) in
-      let inner-are = all-dropLast (drop 1 (rungs lo hi n)) (all-drop 1 rungs-are) in
+      let low = min-within R x y p q in
+      let wide = sub-within R R hi lo (held-small (R + R) (omega arith)) (max-within R x y p q) low in
+      let many : (R + R) * max n 1 < 2 ^ 53 = lt-of-le-of-lt (mul-le-mul (le-two given) (le-steps few)) (lit< tt) in
+      let rungs-are = rungs-each-within R (R + R) n lo hi low wide (omega arith) many (omega arith) in
+      let inner-are = all-so (λ v w. within-more (R + (R + R)) B v (omega arith) w) (all-dropLast (drop 1 (rungs lo hi n)) (all-drop 1 rungs-are)) in
       all-if (le x y) inner-are (all-reverse inner-are)
+    where
+      le-two : H ≤ Million → R + R ≤ 2000014
+      le-two h = omega arith
+
+      le-steps : {n : ℕ} → n ≤ 142000 → max n 1 ≤ 142000
+      le-steps h = omega arith
 
   -- ---- a corner of a ring as the strip takes it
 
   record Ringed (c : Corner Vec3) : Type 0 where
-    u : Within 1809 (c .u)
-    v : Within 1000007 (c .v)
+    u : Within 645 (c .u)
+    v : Within R (c .v)
     high : High s a (c .v)
     at : In Billion (c .at)
 
-  ringed-sized : (c : Corner Vec3) → Ringed c → Sized (2 ^ 22) (2 ^ 32) c
+  ringed-sized : (c : Corner Vec3) → Ringed c → Sized Turned B (2 ^ 32) c
   ringed-sized c h = record {
-    u = within-more 1809 (2 ^ 22) (c .u) (lit≤ tt) (h .u);
-    v = within-more 1000007 (2 ^ 22) (c .v) (lit≤ tt) (h .v);
+    u = within-more 645 Turned (c .u) (lit≤ tt) (h .u);
+    v = within-more R B (c .v) (omega arith) (h .v);
     at = in-more Billion (2 ^ 32) (c .at) (lit≤ tt) (h .at);
   }
 
@@ -125,14 +132,14 @@ module _ (s : List ℕ) (a : Accepted s) where
     period-within : Within 7 (S .period)
     period-within = subst (Within 7) (sym (period-is s some)) turn-within
 
-    wall-sized : (begin u : Float) → Within (2 ^ 22) begin → Within (2 ^ 22) u → {vs : List Float} → All (Within 3000021) vs → SizedCorners (wall S begin u vs)
+    wall-sized : (begin u : Float) → Within Turned begin → Within Turned u → {vs : List Float} → All (Within B) vs → SizedCorners Turned B (wall S begin u vs)
     unfolding settingIn
     wall-sized begin u p q h =
         all-map _ (λ v w.
-        let high = within-more 3000021 (2 ^ 22) v (lit≤ tt) w in
-        record { u = q; v = high; at = point-in (frameIn s) (frame-framed s a) begin v p high (surfaceIn s) (sizes-in s a) }) h
+        let high = within-more B (2 ^ 22) v most w in
+        record { u = q; v = w; at = point-in (frameIn s) (frame-framed s a) begin v (within-more Turned (2 ^ 22) begin (lit≤ tt) p) high (surfaceIn s) (sizes-in s a) }) h
 
-    strip-sized : (lower upper : Corners Vec3) → All Ringed lower → All Ringed upper → SizedCorners (strip S lower upper)
+    strip-sized : (lower upper : Corners Vec3) → All Ringed lower → All Ringed upper → SizedCorners Turned B (strip S lower upper)
     unfolding strip
     strip-sized [] upper p q = all-reverse (all-so ringed-sized q)
     strip-sized (l ∷ lower) [] p q = all-so ringed-sized p
@@ -140,7 +147,8 @@ module _ (s : List ℕ) (a : Accepted s) where
         let c = all-first p in
         let d = all-first q in
         let begin = ringed-sized l c .u in
-        let end : Within (2 ^ 22) (l .u ⊕ S .period) = within-more 1816 (2 ^ 22) (l .u ⊕ S .period) (lit≤ tt) (add-within 1809 7 (l .u) (S .period) (held-small 1816 (lit< tt)) (c .u) period-within) in
+        let far : Within 652 (l .u ⊕ S .period) = add-within 645 7 (l .u) (S .period) (held-small 652 (lit< tt)) (c .u) period-within in
+        let end : Within Turned (l .u ⊕ S .period) = within-more 652 Turned (l .u ⊕ S .period) (lit≤ tt) far in
         let up = heights-within (l .v) (u .v) (c .v) (d .v) (c .high) (d .high) in
         all-append (all-append (all-append (all-so ringed-sized p) (and (record { u = end; v = ringed-sized l c .v; at = ringed-sized l c .at }) (wall-sized (l .u) (l .u ⊕ S .period) begin end up)))
         (and (record { u = end; v = ringed-sized u d .v; at = ringed-sized u d .at }) (all-reverse (all-so ringed-sized q))))
@@ -148,47 +156,47 @@ module _ (s : List ℕ) (a : Accepted s) where
 
     -- ---- the rings
 
-    module _ (h : GivenReach 64 (givenIn s)) (loops-are : All (All (Sized Million Billion)) (loopsIn s)) (low : All (λ (c : Corner Vec3). High s a (c .v)) (lowerRing S (givenIn s)))
+    module _ (h : GivenReach 64 (givenIn s)) (loops-are : All (All (λ (c : Corner Vec3). Within H (c .v) × In Billion (c .at))) (loopsIn s)) (low : All (λ (c : Corner Vec3). High s a (c .v)) (lowerRing S (givenIn s)))
         (high : All (λ (c : Corner Vec3). High s a (c .v)) (upperRing S (givenIn s))) where
-      joined-reach : Reaches 1809 1310 (joined S (givenIn s))
+      joined-reach : Reaches 645 1000 (joined S (givenIn s))
       unfolding joined
-      joined-reach = subst (λ (p : Float). Reaches 1809 1310 (started p (reseam p (laid p (givenIn s))))) (sym (period-is s some)) (started-reach (givenIn s) h)
+      joined-reach = subst (λ (p : Float). Reaches 645 1000 (started p (reseam p (laid p (givenIn s))))) (sym (period-is s some)) (started-reach (givenIn s) h)
 
-      picked-reach : (t : Bool) → Reach 1809 (pick t (joined S (givenIn s)))
+      picked-reach : (t : Bool) → Reach 645 (pick t (joined S (givenIn s)))
       picked-reach true = joined-reach .first
       picked-reach false = joined-reach .later
 
       -- v and the position, which no move along u changes
       abbrev Kept : Corner Vec3 → Type 0
-      Kept c = Within Million (c .v) × In Billion (c .at)
+      Kept c = Within H (c .v) × In Billion (c .at)
 
       given-kept : EachGiven Kept (givenIn s)
-      given-kept = given-each s Kept (all-so (λ r k. all-so (λ c w. (w .v, w .at)) k) loops-are)
+      given-kept = given-each s Kept loops-are
 
       lower-ringed : All Ringed (lowerRing S (givenIn s))
       unfolding lowerRing
       lower-ringed =
-          all-so (λ c w. record { u = w .0 .0; v = within-more Million 1000007 (c .v) (lit≤ tt) (w .0 .1 .0); high = w .1; at = w .0 .1 .1 })
-          (both (both (picked-reach (lowerFirst S (givenIn s)) .each) (pick-each (λ f to c k. k) S (givenIn s) given-kept (lowerFirst S (givenIn s)))) low)
+          all-so (λ c w. record { u = w .0 .0 .within; v = within-more H R (c .v) (omega arith) (w .0 .1 .0); high = w .1; at = w .0 .1 .1 })
+          (all-both (all-both (picked-reach (lowerFirst S (givenIn s)) .each) (pick-each (λ f to c k. k) S (givenIn s) given-kept (lowerFirst S (givenIn s)))) low)
 
       upper-ringed : All Ringed (upperRing S (givenIn s))
       unfolding upperRing settingIn
       upper-ringed =
           let t = not (lowerFirst S (givenIn s)) in
-          all-so (λ c w. record { u = w .0 .0; v = w .0 .1 .0; high = w .1; at = w .0 .1 .1 })
-          (both (all-map {Q = λ (c : Corner Vec3). Within 1809 (c .u) × (Within 1000007 (c .v) × In Billion (c .at))} _ (λ c w. (w .0, (lift-within (vPeriod (surfaceIn s)) (either-v (surfaceIn s)) _ _ _ _ (c .v) (w .1 .0), w .1 .1)))
-          (both (picked-reach t .each) (pick-each (λ f to c k. k) S (givenIn s) given-kept t))) high)
+          all-so (λ c w. record { u = w .0 .0 .within; v = w .0 .1 .0; high = w .1; at = w .0 .1 .1 })
+          (all-both (all-map {Q = λ (c : Corner Vec3). Known 645 (c .u) × (Within R (c .v) × In Billion (c .at))} _ (λ c w. (w .0, (lift-within H given (vPeriod (surfaceIn s)) (either-v (surfaceIn s)) _ _ _ _ (c .v) (w .1 .0), w .1 .1)))
+          (all-both (picked-reach t .each) (pick-each (λ f to c k. k) S (givenIn s) given-kept t))) high)
 
-      pub outer-sized : SizedCorners (outer S (givenIn s))
+      pub outer-sized : SizedCorners Turned B (outer S (givenIn s))
       unfolding outer stripOf
       outer-sized = all-dropRepeats _ (stripOf S (givenIn s)) (strip-sized (lowerRing S (givenIn s)) (upperRing S (givenIn s)) lower-ringed upper-ringed)
 
-      pub holes-sized : All SizedCorners (holes S (givenIn s))
+      pub holes-sized : All (SizedCorners Turned B) (holes S (givenIn s))
       unfolding holes
       holes-sized =
           all-so (λ r w. all-so (λ c k. record {
-            u = within-more 1310 (2 ^ 22) (c .u) (lit≤ tt) (k .0);
-            v = within-more Million (2 ^ 22) (c .v) (lit≤ tt) (k .1 .0);
+            u = k .0 .within;
+            v = within-more H B (c .v) (omega arith) (k .1 .0);
             at = in-more Billion (2 ^ 32) (c .at) (lit≤ tt) (k .1 .1);
-          }) (both (w .0 .each) (w .1)))
-          (both (joined-reach .holes) (holes-each (λ f to c k. k) S (givenIn s) given-kept))
+          }) (all-both (w .0 .each) (w .1)))
+          (all-both (joined-reach .holes) (holes-each (λ f to c k. k) S (givenIn s) given-kept))

@@ -5,13 +5,13 @@ use mathlib.Core.Logic.{_⊎_, inl, inr}
 use mathlib.Core.Bool.{Bool, true, false, cond, _&&_}
 use mathlib.Core.List.{List, [], map}
 use native.Mathlib.Omega.{arith}
-use lib.Dec.{lit<, lit≤}
+use lib.Dec.{lit≤}
 use lib.ListN.{length, length-map}
 use lib.Ieee.{Float, eq}
 use Rattle.numbers.specs.Constants.{plusZero, TAU}
 use Rattle.numbers.specs.Within.{Within}
 use Rattle.numbers.specs.declared.math.Vec3.{Vec3}
-use Rattle.numbers.proofs.Magnitude.{held-small, within-more, add-within}
+use Rattle.numbers.proofs.Magnitude.{held-small, within-more, pow-more, add-within}
 use Rattle.numbers.proofs.math.Frames.{Billion, in-more}
 use Rattle.loops.specs.Part.{raised}
 use Rattle.regions.specs.Outer.{holesOf}
@@ -20,126 +20,172 @@ use Rattle.regions.specs.Rephase as Rephase
 use Rattle.regions.specs.declared.rephase.Branch.{Branch}
 use Rattle.bands.specs.Corners.{Corner, Corners, us, vs}
 use Rattle.records.specs.Result.{All, and}
-use Rattle.judgement.specs.Paths.{ResultLoop, signedArea, withArea, outerNumber, outerLoop, branchOf, rephasedHole, closedLoops}
+use Rattle.judgement.specs.Paths.{ResultLoop, signedArea, outerNumber, outerLoop, branchOf, rephasedHole, closedLoops}
+use Rattle.judgement.proofs.Doubles.{FitsCorner}
 use Rattle.judgement.proofs.Each.{all-in, all-append, all-take, all-drop, all-map, all-so}
 use Rattle.judgement.proofs.Outermost.{outer-below}
-use Rattle.magnitudes.proofs.Loops.{middle-within, turned-shift, open-shift, area-within}
-use Rattle.magnitudes.proofs.Record.{Million, Sized, corners-sized}
+use Rattle.magnitudes.proofs.Loops.{all-both, Known, middle-known, turned-shift, open-shift, area-within}
+use Rattle.magnitudes.proofs.Record.{Sized, corners-sized}
 
--- ---- loops of a result
+abbrev u-of : Corner Vec3 → Float
+u-of c = c .u
 
-abbrev pub SizedCorners : Corners Vec3 → Type 0
-SizedCorners r = All (Sized (2 ^ 22) (2 ^ 32)) r
+abbrev v-of : Corner Vec3 → Float
+v-of c = c .v
 
-pub record SizedLoop (l : ResultLoop) : Type 0 where
-  pub area : Within (2 ^ 54) (l .area)
-  pub corners : SizedCorners (l .corners)
+-- ---- the area of a loop
 
-module _ (r : Corners Vec3) (h : SizedCorners r) (few : length r ≤ 1024) where
-  pub area-sized : Within (2 ^ 54) (signedArea r)
-  area-sized = area-within 22 (lit≤ tt) (us r) (vs r) (all-map (λ (c : Corner Vec3). c .u) (λ c w. w .u) h) (all-map (λ (c : Corner Vec3). c .v) (λ c w. w .v) h) (let e = length-map r (λ (c : Corner Vec3). c .u) in omega arith)
+pub area-sized : (j k X : ℕ) → j + k ≤ 40 → (r : Corners Vec3) → All (Sized (2 ^ j) (2 ^ k) X) r → length r ≤ 1024 → Within (2 ^ 50) (signedArea r)
+area-sized j k X few r h short =
+    pow-more (j + k + 10) 50 (signedArea r) (omega arith)
+    (area-within j k (omega arith) (us r) (vs r) (all-map u-of (λ c w. w .u) h) (all-map v-of (λ c w. w .v) h) (let e = length-map r u-of in omega arith))
 
-  pub with-area-sized : SizedLoop (withArea r)
-  with-area-sized = record { area = area-sized; corners = h }
+-- ---- loops of a result, whose u are at most A and whose v are at most B
 
--- ---- loops as the record gives them
+abbrev pub SizedCorners : ℕ → ℕ → Corners Vec3 → Type 0
+SizedCorners A B r = All (Sized A B (2 ^ 32)) r
 
-pub record GivenLoop (r : Corners Vec3) : Type 0 where
+pub record SizedLoop (A B : ℕ) (l : ResultLoop) : Type 0 where
+  pub area : Within (2 ^ 50) (l .area)
+  pub corners : SizedCorners A B (l .corners)
+
+pub sized-more : (A P A′ P′ : ℕ) → A ≤ A′ → P ≤ P′ → (c : Corner Vec3) → Sized A P Billion c → Sized A′ P′ (2 ^ 32) c
+sized-more A P A′ P′ a p c w = record { u = within-more A A′ (c .u) a (w .u); v = within-more P P′ (c .v) p (w .v); at = in-more Billion (2 ^ 32) (c .at) (lit≤ tt) (w .at) }
+
+-- ---- loops as the record gives them, with u of at most G and v of at most H
+
+pub record GivenLoop (G H : ℕ) (r : Corners Vec3) : Type 0 where
   pub some : 0 < length r
   pub few : length r ≤ 1024
-  pub sized : All (Sized Million Billion) r
+  pub sized : All (Sized G H Billion) r
+  pub fit : All FitsCorner r
 
-pub given-sized : (r : Corners Vec3) → GivenLoop r → SizedCorners r
-given-sized r h =
-    all-so (λ c w. record {
-      u = within-more Million (2 ^ 22) (c .u) (lit≤ tt) (w .u);
-      v = within-more Million (2 ^ 22) (c .v) (lit≤ tt) (w .v);
-      at = in-more Billion (2 ^ 32) (c .at) (lit≤ tt) (w .at);
-    }) (h .sized)
+module _ (G H : ℕ) (r : Corners Vec3) (h : GivenLoop G H r) where
+  us-given : All (Known G) (us r)
+  us-given = all-map u-of (λ c w. record { within = w .0 .u; fits = w .1 .u }) (all-both (h .sized) (h .fit))
 
-module _ (r : Corners Vec3) (h : GivenLoop r) where
-  us-given : All (Within Million) (us r)
-  us-given = all-map (λ (c : Corner Vec3). c .u) (λ c w. w .u) (h .sized)
-
-  vs-given : All (Within Million) (vs r)
-  vs-given = all-map (λ (c : Corner Vec3). c .v) (λ c w. w .v) (h .sized)
+  vs-given : All (Known H) (vs r)
+  vs-given = all-map v-of (λ c w. record { within = w .0 .v; fits = w .1 .v }) (all-both (h .sized) (h .fit))
 
   us-some : 0 < length (us r)
-  us-some = let e = length-map r (λ (c : Corner Vec3). c .u) in let s = h .some in omega arith
+  us-some = let e = length-map r u-of in let s = h .some in omega arith
 
   vs-some : 0 < length (vs r)
-  vs-some = let e = length-map r (λ (c : Corner Vec3). c .v) in let s = h .some in omega arith
+  vs-some = let e = length-map r v-of in let s = h .some in omega arith
+
+  -- given within a million, it has an area of at most 2 ^ 50
+  pub area-given : G ≤ 2 ^ 20 → H ≤ 2 ^ 20 → Within (2 ^ 50) (signedArea r)
+  area-given g k = area-sized 20 20 (2 ^ 32) (lit≤ tt) r (all-so (sized-more G H (2 ^ 20) (2 ^ 20) g k) (h .sized)) (h .few)
 
 -- ---- a hole, moved
 
--- a direction comes round by TAU, or not at all
-abbrev pub Round : Float → Type 0
-Round p = (p ≡ TAU) ⊎ (p ≡ plusZero)
+-- a direction in which what is given is at most G and what is moved at most M: it comes round by TAU, and then G is 64, or not at all
+pub record Way (p : Float) (G M : ℕ) : Type 0 where
+  pub given : G ≤ M
+  pub moved : 196 ≤ M
+  pub most : M ≤ 2 ^ 20
+  pub turns : ((p ≡ TAU) × (G ≡ 64)) ⊎ (p ≡ plusZero)
 
--- by at most 333,334 turns
-shift-within : (p : Float) → Round p → (middle : Float) → Within Million middle → {xs : List Float} → All (Within Million) xs → 0 < length xs → Within 2333338 (shiftOf middle p xs)
-shift-within p (inl e) middle w {xs} h some = subst (λ (q : Float). Within 2333338 (shiftOf middle q xs)) (sym e) (turned-shift Million 333334 (lit≤ tt) (lit< tt) middle w h some)
-shift-within p (inr e) middle w {xs} h some = subst (λ (q : Float). Within 2333338 (shiftOf middle q xs)) (sym e) (open-shift 2333338 middle xs)
+raised-within : (G S M : ℕ) → G + S ≤ M → M ≤ 2 ^ 20 → (step : Float) → Within S step → {xs : List Float} → All (Known G) xs → All (Within M) (map (raised step) xs)
+raised-within G S M few most step w h =
+    let held = held-small (G + S) (omega arith) in
+    all-map (raised step) (λ x v. within-more (G + S) M (raised step x) few (add-within G S x step held (v .within) w)) h
 
-raised-within : (step : Float) → Within 2333338 step → {xs : List Float} → All (Within Million) xs → All (Within (2 ^ 22)) (map (raised step) xs)
-raised-within step w h = all-map (raised step) (λ x v. within-more 3333338 (2 ^ 22) (raised step x) (lit≤ tt) (add-within Million 2333338 x step (held-small 3333338 (lit< tt)) v w)) h
+moved-within : (p : Float) (G M : ℕ) → Way p G M → (middle : Float) → Known G middle → {xs : List Float} → All (Known G) xs → 0 < length xs
+    → All (Within M) (map (raised (shiftOf middle p xs)) xs)
+moved-within p G M way middle w {xs} h some = go (way .turns)
+  where
+    go : ((p ≡ TAU) × (G ≡ 64)) ⊎ (p ≡ plusZero) → All (Within M) (map (raised (shiftOf middle p xs)) xs)
+    go (inl e) =
+        let at-64 = subst (λ (g : ℕ). Known g middle) (e .1) w in
+        let all-64 = subst (λ (g : ℕ). All (Known g) xs) (e .1) h in
+        let far : Within 132 (shiftOf middle TAU xs) = turned-shift 64 (lit≤ tt) middle at-64 all-64 some in
+        let room = way .moved in
+        let is = e .1 in
+        raised-within G 132 M (omega arith) (way .most) (shiftOf middle p xs) (subst (λ (q : Float). Within 132 (shiftOf middle q xs)) (sym (e .0)) far) h
+    go (inr e) =
+        let room = way .given in
+        raised-within G 0 M (omega arith) (way .most) (shiftOf middle p xs) (subst (λ (q : Float). Within 0 (shiftOf middle q xs)) (sym e) (open-shift middle xs)) h
 
-module _ (b : Branch) (across : Round (b .uperiod)) (along : Round (b .vperiod)) (umid : Within Million (b .umid)) (vmid : Within Million (b .vmid)) where
+module _ (G H A B : ℕ) (b : Branch) (across : Way (b .uperiod) G A) (along : Way (b .vperiod) H B) (umid : Known G (b .umid)) (vmid : Known H (b .vmid))
+    (r : Corners Vec3) (h : GivenLoop G H r) where
   record SizedParts (l : Rephase.Loop) : Type 0 where
-    us : All (Within (2 ^ 22)) (l .us)
-    vs : All (Within (2 ^ 22)) (l .vs)
-    area : Within (2 ^ 54) (l .area)
+    us : All (Within A) (l .us)
+    vs : All (Within B) (l .vs)
+    area : Within (2 ^ 50) (l .area)
 
-  moved-sized : (su sv : Float) (l : Rephase.Loop) → Within 2333338 su → Within 2333338 sv → All (Within Million) (l .us) → All (Within Million) (l .vs) → length (l .us) ≤ 1024 → SizedParts (moved su sv l)
+  abbrev loop : Rephase.Loop
+  loop = record { us = us r; vs = vs r; area = signedArea r }
+
+  abbrev su : Float
+  su = shiftOf (b .umid) (b .uperiod) (us r)
+
+  abbrev sv : Float
+  sv = shiftOf (b .vmid) (b .vperiod) (vs r)
+
+  stays-sized : SizedParts loop
+  stays-sized =
+      let u-less = across .given in
+      let v-less = along .given in
+      let most = across .most in
+      let v-most = along .most in
+      record {
+        us = all-so (λ x w. within-more G A x u-less (w .within)) (us-given G H r h);
+        vs = all-so (λ x w. within-more H B x v-less (w .within)) (vs-given G H r h);
+        area = area-given G H r h (omega arith) (omega arith);
+      }
+
+  moved-sized : SizedParts (moved su sv loop)
   unfolding moved
-  moved-sized su sv l p q hu hv few =
-      let us-are = raised-within su p hu in
-      let vs-are = raised-within sv q hv in
-      record { us = us-are; vs = vs-are; area = area-within 22 (lit≤ tt) _ _ us-are vs-are (let e = length-map (l .us) (raised su) in omega arith) }
+  moved-sized =
+      let us-are = moved-within (b .uperiod) G A across (b .umid) umid (us-given G H r h) (us-some G H r h) in
+      let vs-are = moved-within (b .vperiod) H B along (b .vmid) vmid (vs-given G H r h) (vs-some G H r h) in
+      let most = across .most in
+      let v-most = along .most in
+      let short = h .few in
+      record {
+        us = us-are;
+        vs = vs-are;
+        area = area-within 20 20 (lit≤ tt) _ _ (all-so (λ x w. within-more A (2 ^ 20) x most w) us-are) (all-so (λ x w. within-more B (2 ^ 20) x v-most w) vs-are)
+            (let e = length-map (us r) (raised su) in let f = length-map r u-of in omega arith);
+      }
 
-  module _ (r : Corners Vec3) (h : GivenLoop r) where
-    abbrev loop : Rephase.Loop
-    loop = record { us = us r; vs = vs r; area = signedArea r }
+  rephased-sized : SizedParts (rephased b loop)
+  unfolding rephased
+  rephased-sized = pick (eq su plusZero && eq sv plusZero)
+    where
+      pick : (t : Bool) → SizedParts (cond t loop (moved su sv loop))
+      pick true = stays-sized
+      pick false = moved-sized
 
-    abbrev su : Float
-    su = shiftOf (b .umid) (b .uperiod) (us r)
-
-    abbrev sv : Float
-    sv = shiftOf (b .vmid) (b .vperiod) (vs r)
-
-    rephased-sized : SizedParts (rephased b loop)
-    unfolding rephased
-    rephased-sized = pick (eq su plusZero && eq sv plusZero)
-      where
-        stays : SizedParts loop
-        stays =
-            let all = given-sized r h in
-            record { us = all-map (λ (c : Corner Vec3). c .u) (λ c w. w .u) all; vs = all-map (λ (c : Corner Vec3). c .v) (λ c w. w .v) all; area = area-sized r all (h .few) }
-
-        pick : (t : Bool) → SizedParts (cond t loop (moved su sv loop))
-        pick true = stays
-        pick false =
-            moved-sized su sv loop (shift-within (b .uperiod) across (b .umid) umid (us-given r h) (us-some r h)) (shift-within (b .vperiod) along (b .vmid) vmid (vs-given r h) (vs-some r h))
-            (us-given r h) (vs-given r h) (let e = length-map r (λ (c : Corner Vec3). c .u) in let f = h .few in omega arith)
-
-    hole-sized : SizedLoop (rephasedHole b r)
-    unfolding rephasedHole
-    hole-sized =
-        let parts = rephased-sized in
-        record {
-          area = parts .area;
-          corners = corners-sized (2 ^ 22) (2 ^ 32) (parts .us) (parts .vs) (all-map (λ (c : Corner Vec3). c .at) (λ c w. in-more Billion (2 ^ 32) (c .at) (lit≤ tt) (w .at)) (h .sized));
-        }
+  hole-sized : SizedLoop A B (rephasedHole b r)
+  unfolding rephasedHole
+  hole-sized =
+      let parts = rephased-sized in
+      record {
+        area = parts .area;
+        corners = corners-sized A B (2 ^ 32) (parts .us) (parts .vs)
+            (all-map (λ (c : Corner Vec3). c .at) (λ c w. in-more Billion (2 ^ 32) (c .at) (lit≤ tt) (w .at)) (h .sized));
+      }
 
 -- ---- the path
 
-pub closed-sized : (up vp : Float) → Round up → Round vp → (ls : List (Corners Vec3)) → 0 < length ls → All GivenLoop ls → All SizedLoop (closedLoops up vp ls)
+pub closed-sized : (G H A B : ℕ) (up vp : Float) → Way up G A → Way vp H B → (ls : List (Corners Vec3)) → 0 < length ls → All (GivenLoop G H) ls
+    → All (SizedLoop A B) (closedLoops up vp ls)
 unfolding closedLoops outerLoop holesOf
-closed-sized up vp across along ls some h =
+closed-sized G H A B up vp across along ls some h =
     let n : ℕ = outerNumber ls in
-    let outer : GivenLoop (outerLoop ls) = all-in h n [] (outer-below ls some) in
+    let outer : GivenLoop G H (outerLoop ls) = all-in h n [] (outer-below ls some) in
     let b : Branch = branchOf up vp (outerLoop ls) in
-    let umid = middle-within Million (lit< tt) (us-given (outerLoop ls) outer) (us-some (outerLoop ls) outer) in
-    let vmid = middle-within Million (lit< tt) (vs-given (outerLoop ls) outer) (vs-some (outerLoop ls) outer) in
-    and (with-area-sized (outerLoop ls) (given-sized (outerLoop ls) outer) (outer .few))
-    (all-map (rephasedHole b) (hole-sized b across along umid vmid) (all-append (all-take n h) (all-drop (n + 1) h)))
+    let u-less = across .given in
+    let v-less = along .given in
+    let most = across .most in
+    let v-most = along .most in
+    let umid = middle-known G (omega arith) (us-given G H (outerLoop ls) outer) (us-some G H (outerLoop ls) outer) in
+    let vmid = middle-known H (omega arith) (vs-given G H (outerLoop ls) outer) (vs-some G H (outerLoop ls) outer) in
+    and
+    (record {
+      area = area-given G H (outerLoop ls) outer (omega arith) (omega arith);
+      corners = all-so (sized-more G H A B u-less v-less) (outer .sized);
+    })
+    (all-map (rephasedHole b) (hole-sized G H A B b across along umid vmid) (all-append (all-take n h) (all-drop (n + 1) h)))

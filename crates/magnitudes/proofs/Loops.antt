@@ -1,156 +1,223 @@
 -- Bounds of what `loops`, `rings` and `regions` work out of a loop's parameters: its least, greatest and middle, shifts by whole turns, and its area.
 use mathlib.Core.Path.{_≡_, sym, ap, _∙_, subst}
 use Prim.Native.Nat.{ℕ, zero, suc, _+_, _*_, _%_, _^_, _≤_, _<_, min, max}
-use native.Mathlib.Nat.{le-trans, le-of-eq, mod-lt, mul-comm, mul-le-mul-right, pow-suc, two-mul}
+use native.Mathlib.Nat.{le-trans, le-of-eq, le-add-left, mod-lt, mul-comm, mul-le-mul-right, pow-suc, two-mul}
 use native.Mathlib.Omega.{arith}
 use mathlib.Core.Bool.{Bool, true, false, cond}
 use mathlib.Core.List.{List, foldl}
-use lib.Dec.{lit<}
+use lib.Dec.{T, lit<, lit≤}
+use lib.IntN.{natAbs}
 use lib.Pow.{pow-add}
 use lib.ListN.{length, getD}
-use lib.Ieee.{Float, nan, inf, fin, lt}
-use Rattle.numbers.specs.Constants.{plusZero, TAU}
+use lib.Ieee.{Float, nan, inf, fin, binary64, fits, lt}
+use lib.Ieee.Fits.{sub-fits, mul-fits}
+use lib.Ieee.Scale.{finite}
+use Rattle.numbers.specs.Constants.{plusZero, half, TAU}
 use Rattle.numbers.specs.Order.{minOf, maxOf}
 use Rattle.numbers.specs.Rounded.{_⊕_, _⊖_, _⊗_, _⊘_}
 use Rattle.numbers.specs.Round.{roundAway, floorOf}
+use Rattle.numbers.specs.Units.{scale, units, FiniteReal}
 use Rattle.numbers.specs.Within.{Within, Held}
-use Rattle.numbers.proofs.Fractions.{quotient-within, turn-within, turn-at-least}
-use Rattle.numbers.proofs.Magnitude.{held-small, held-pow, held-times, within-more, add-within, sub-within, mul-within, mul-pow, sub-pow, min-within, max-within, half-within, zero-within}
-use Rattle.numbers.proofs.rounding.Bounds.{round-away-within, floor-within}
+use Rattle.numbers.proofs.Integers.{taken-size, between-size, distance-turned}
+use Rattle.numbers.proofs.Magnitude.{held-small, held-pow, held-times, within-more, within-finite, add-within, mul-pow, sub-pow, half-within, zero-within}
+use Rattle.numbers.proofs.Units.{within-units, units-within, distance-within}
 use Rattle.surfaces.specs.Rungs.{rungs}
 use Rattle.surfaces.proofs.knots.Between.{rungs-within}
 use Rattle.loops.specs.Area.{crossAt, crossSum, areaOf}
-use Rattle.loops.specs.Branch.{branchShift}
+use Rattle.loops.specs.Branch.{branchShift, turnUnits, slackUnits, Reached, leftOver}
 use Rattle.loops.specs.Span.{leastOf, greatestOf, middleOf}
+use Rattle.loops.proofs.Landing.{lands, left-half, half-turned, left-turn}
 use Rattle.regions.specs.Rephase.{shiftOf}
 use Rattle.rings.specs.Choices.{stripShift}
 use Rattle.records.specs.Result.{All, none, and}
 use Rattle.judgement.proofs.Each.{all-in, all-at}
 
+-- ---- what holds of each element, twice
+
+pub all-both : {A : Type 0} {P Q : A → Type 0} {xs : List A} → All P xs → All Q xs → All (λ (a : A). P a × Q a) xs
+all-both none none = none
+all-both (and p ps) (and q qs) = and (p, q) (all-both ps qs)
+
+-- ---- a real of the closing, at most B in size
+
+pub record Known (B : ℕ) (x : Float) : Type 0 where
+  pub within : Within B x
+  pub fits : T (fits binary64 x)
+
+module _ {B : ℕ} {x : Float} (h : Known B x) where
+  pub known-more : (C : ℕ) → B ≤ C → Known C x
+  known-more C l = record { within = within-more B C x l (h .within); fits = h .fits }
+
+  known-real : FiniteReal x
+  known-real = record { fits = h .fits; finite = within-finite B x (h .within) }
+
+pub pick-known : {B : ℕ} {x y : Float} → (t : Bool) → Known B x → Known B y → Known B (cond t x y)
+pick-known true p q = p
+pick-known false p q = q
+
+pub min-known : {B : ℕ} {x y : Float} → Known B x → Known B y → Known B (minOf x y)
+min-known {B} {x} {y} p q = pick-known (lt y x) q p
+
 -- ---- the least, the greatest and the middle of a loop with corners
 
 module _ (B : ℕ) where
-  fold-min : (from : Float) {xs : List Float} → Within B from → All (Within B) xs → Within B (foldl minOf from xs)
+  fold-min : (from : Float) {xs : List Float} → Known B from → All (Known B) xs → Known B (foldl minOf from xs)
   fold-min from w none = w
-  fold-min from w (and {a} h hs) = fold-min (minOf from a) (min-within B from a w h) hs
+  fold-min from w (and {a} h hs) = fold-min (minOf from a) (pick-known (lt a from) h w) hs
 
-  fold-max : (from : Float) {xs : List Float} → Within B from → All (Within B) xs → Within B (foldl maxOf from xs)
+  fold-max : (from : Float) {xs : List Float} → Known B from → All (Known B) xs → Known B (foldl maxOf from xs)
   fold-max from w none = w
-  fold-max from w (and {a} h hs) = fold-max (maxOf from a) (max-within B from a w h) hs
+  fold-max from w (and {a} h hs) = fold-max (maxOf from a) (pick-known (lt from a) h w) hs
 
   -- every real is less than the infinity that the least starts from, and greater than the other
-  first-least : (x : Float) → Within B x → Within B (minOf (inf false) x)
+  first-least : (x : Float) → Known B x → Known B (minOf (inf false) x)
   unfolding lt
-  first-least nan w = absurd w
-  first-least (inf s) w = absurd w
+  first-least nan w = absurd (w .within)
+  first-least (inf s) w = absurd (w .within)
   first-least (fin s m e) w = w
 
-  first-greatest : (x : Float) → Within B x → Within B (maxOf (inf true) x)
+  first-greatest : (x : Float) → Known B x → Known B (maxOf (inf true) x)
   unfolding lt
-  first-greatest nan w = absurd w
-  first-greatest (inf s) w = absurd w
+  first-greatest nan w = absurd (w .within)
+  first-greatest (inf s) w = absurd (w .within)
   first-greatest (fin s m e) w = w
 
-  pub least-within : {xs : List Float} → All (Within B) xs → 0 < length xs → Within B (leastOf xs)
+  pub least-known : {xs : List Float} → All (Known B) xs → 0 < length xs → Known B (leastOf xs)
   unfolding leastOf
-  least-within none some = absurd (omega arith)
-  least-within (and {a} h hs) some = fold-min (minOf (inf false) a) (first-least a h) hs
+  least-known none some = absurd (omega arith)
+  least-known (and {a} h hs) some = fold-min (minOf (inf false) a) (first-least a h) hs
 
-  pub greatest-within : {xs : List Float} → All (Within B) xs → 0 < length xs → Within B (greatestOf xs)
+  pub greatest-known : {xs : List Float} → All (Known B) xs → 0 < length xs → Known B (greatestOf xs)
   unfolding greatestOf
-  greatest-within none some = absurd (omega arith)
-  greatest-within (and {a} h hs) some = fold-max (maxOf (inf true) a) (first-greatest a h) hs
+  greatest-known none some = absurd (omega arith)
+  greatest-known (and {a} h hs) some = fold-max (maxOf (inf true) a) (first-greatest a h) hs
 
-  pub middle-within : {xs : List Float} → B < 2 ^ 52 → All (Within B) xs → 0 < length xs → Within B (middleOf xs)
+  pub middle-known : {xs : List Float} → B < 2 ^ 52 → All (Known B) xs → 0 < length xs → Known B (middleOf xs)
   unfolding middleOf
-  middle-within {xs} few h some =
-      half-within B (leastOf xs ⊕ greatestOf xs) (held-small B (omega arith))
-      (add-within B B (leastOf xs) (greatestOf xs) (held-small (B + B) (omega arith)) (least-within h some) (greatest-within h some))
+  middle-known {xs} few h some = record {
+    within = half-within B (leastOf xs ⊕ greatestOf xs) (held-small B (omega arith))
+        (add-within B B (leastOf xs) (greatestOf xs) (held-small (B + B) (omega arith)) (least-known h some .within) (greatest-known h some .within));
+    fits = mul-fits binary64 (leastOf xs ⊕ greatestOf xs) half;
+  }
 
--- ---- shifts by whole turns
+-- ---- shifts by whole turns: no further than the distance and what they leave of it
 
--- of a distance x of at most 6 k: k turns, and 7 k in size
-module _ (k : ℕ) (few : k < 2 ^ 50) (x : Float) (far : Within (k * 6) x) where
-  turns : Within k (x ⊘ TAU)
-  turns = quotient-within k 6 x TAU (held-small k (omega arith)) (lit< tt) far turn-at-least
+half-turn : turnUnits + 2 * slackUnits ≤ 8 * scale
+unfolding units lib.Ieee.ofBits
+half-turn = lit≤ tt
 
-  nearest-turns : Within (k * 7) (roundAway (x ⊘ TAU) ⊗ TAU)
-  nearest-turns = mul-within k 7 (roundAway (x ⊘ TAU)) TAU (held-small (k * 7) (omega arith)) (round-away-within k (x ⊘ TAU) (held-small k (omega arith)) turns) turn-within
+whole-turn : turnUnits + slackUnits ≤ 7 * scale
+unfolding units lib.Ieee.ofBits
+whole-turn = lit≤ tt
 
-  turns-nearest : Within (7 * k) (TAU ⊗ roundAway (x ⊘ TAU))
-  turns-nearest = mul-within 7 k TAU (roundAway (x ⊘ TAU)) (held-small (7 * k) (omega arith)) turn-within (round-away-within k (x ⊘ TAU) (held-small k (omega arith)) turns)
+some-slack : slackUnits ≤ turnUnits + slackUnits
+some-slack = le-add-left slackUnits turnUnits
 
-  whole-turns : Within (k * 7) (floorOf (x ⊘ TAU) ⊗ TAU)
-  whole-turns = mul-within k 7 (floorOf (x ⊘ TAU)) TAU (held-small (k * 7) (omega arith)) (floor-within k (x ⊘ TAU) (held-small k (omega arith)) turns) turn-within
+-- at most 1,000, as far out as it is known what a shift leaves
+module _ (A B : ℕ) (A-near : A ≤ 1000) (B-near : B ≤ 1000) (x y : Float) (v : Known A x) (w : Known B y) where
+  reached-x : Reached x
+  reached-x = within-more A 1000 x A-near (v .within)
 
--- the distance of two bounded reals
-distance : (A B C : ℕ) (x y : Float) → A + B ≤ C → C < 2 ^ 53 → Within A x → Within B y → Within C (x ⊖ y)
-distance A B C x y l h v w = within-more (A + B) C (x ⊖ y) l (sub-within A B x y (held-small (A + B) (omega arith)) v w)
+  reached-y : Reached y
+  reached-y = within-more B 1000 y B-near (w .within)
 
-module _ (A B k : ℕ) (near : A + B ≤ k * 6) (few : k < 2 ^ 50) where
-  pub branch-within : (value reference : Float) → Within A value → Within B reference → Within (7 * k) (branchShift value reference TAU)
-  branch-within value reference v w = turns-nearest k few (value ⊖ reference) (distance A B (k * 6) value reference near (omega arith) v w)
+  -- what leaves at most M of the distance is at most A + B + M in size
+  taken : (M : ℕ) (s : Float) → T (fits binary64 s) → T (finite s) → natAbs (leftOver x y s) ≤ M * scale → Within (A + B + M) s
+  taken M s f g l =
+      let x-few = within-units A x (known-real v) (v .within) in
+      let y-few = within-units B y (known-real w) (w .within) in
+      let few = taken-size (units x) (units y) (units s) (A * scale) (B * scale) (M * scale) x-few y-few l in
+      units-within (A + B + M) s (record { fits = f; finite = g }) (le-trans few (le-of-eq (together A B M scale)))
+    where
+      together : (a b m s : ℕ) → a * s + b * s + m * s ≡ (a + b + m) * s
+      together a b m s = omega arith
 
-  pub strip-shift-within : (lo : Float) {us : List Float} → Within B lo → All (Within A) us → 0 < length us → Within (k * 7) (stripShift TAU lo us)
-  unfolding stripShift
-  strip-shift-within lo {us} w h some = whole-turns k few (leastOf us ⊖ lo) (distance A B (k * 6) (leastOf us) lo near (omega arith) (least-within A h some) w)
+  halved : (d a b : ℕ) → 2 * d ≤ a → a ≤ 8 * b → d ≤ 4 * b
+  halved d a b h l = omega arith
+
+  pub branch-within : Within (A + B + 4) (branchShift x y TAU)
+  branch-within =
+      let h = left-half x y (v .fits) (w .fits) reached-x reached-y in
+      taken 4 (branchShift x y TAU) (mul-fits binary64 _ _) (h .0) (halved _ (turnUnits + 2 * slackUnits) scale (h .1) half-turn)
+
+  pub nearest-within : Within (A + B + 4) (roundAway ((x ⊖ y) ⊘ TAU) ⊗ TAU)
+  nearest-within = subst (Within (A + B + 4)) (sym (half-turned x y (v .fits) (w .fits) reached-x reached-y)) branch-within
+
+  pub floor-within : Within (A + B + 7) (floorOf ((x ⊖ y) ⊘ TAU) ⊗ TAU)
+  floor-within =
+      let h = left-turn x y (v .fits) (w .fits) reached-x reached-y in
+      let s : Float = floorOf ((x ⊖ y) ⊘ TAU) ⊗ TAU in
+      taken 7 s (mul-fits binary64 _ _) (h .0) (le-trans (between-size (leftOver x y s) slackUnits (turnUnits + slackUnits) (h .1) (h .2) some-slack) whole-turn)
+
+  -- where a value lands: at most 4 from the reference
+  pub landed-apart : Within 4 (y ⊖ (x ⊖ branchShift x y TAU))
+  landed-apart =
+      let h = lands x y (v .fits) (w .fits) reached-x reached-y in
+      let r : Float = x ⊖ branchShift x y TAU in
+      distance-within 4 y r (held-small 4 (lit< tt)) (known-real w) (record { fits = sub-fits binary64 _ _; finite = h .0 })
+      (subst (λ (d : ℕ). d ≤ 4 * scale) (distance-turned (units r) (units y)) (halved _ (turnUnits + 2 * slackUnits) scale (h .1) half-turn))
+
+pub strip-shift-within : (A B : ℕ) → A ≤ 1000 → B ≤ 1000 → (lo : Float) {us : List Float} → Known B lo → All (Known A) us → 0 < length us
+    → Within (A + B + 7) (stripShift TAU lo us)
+unfolding stripShift
+strip-shift-within A B a b lo {us} w h some = floor-within A B a b (leastOf us) lo (least-known A h some) w
 
 -- onto the branch of a middle, where the direction comes round by TAU or, at a period of 0, is open
-module _ (B k : ℕ) (near : B + B ≤ k * 6) (few : k < 2 ^ 50) (middle : Float) (at : Within B middle) {xs : List Float} (h : All (Within B) xs) (some : 0 < length xs) where
-  pub turned-shift : Within (k * 7) (shiftOf middle TAU xs)
-  unfolding shiftOf
-  turned-shift = go (lt plusZero TAU)
-    where
-      go : (t : Bool) → Within (k * 7) (cond t (roundAway ((middle ⊖ middleOf xs) ⊘ TAU) ⊗ TAU) plusZero)
-      go true = nearest-turns k few (middle ⊖ middleOf xs) (distance B B (k * 6) middle (middleOf xs) near (omega arith) at (middle-within B (omega arith) h some))
-      go false = zero-within (k * 7)
+pub turned-shift : (B : ℕ) → B ≤ 1000 → (middle : Float) → Known B middle → {xs : List Float} → All (Known B) xs → 0 < length xs
+    → Within (B + B + 4) (shiftOf middle TAU xs)
+unfolding shiftOf
+turned-shift B b middle w {xs} h some = go (lt plusZero TAU)
+  where
+    go : (t : Bool) → Within (B + B + 4) (cond t (roundAway ((middle ⊖ middleOf xs) ⊘ TAU) ⊗ TAU) plusZero)
+    go true = nearest-within B B b b middle (middleOf xs) w (middle-known B (omega arith) h some)
+    go false = zero-within (B + B + 4)
 
-pub open-shift : (B : ℕ) (middle : Float) (xs : List Float) → Within B (shiftOf middle plusZero xs)
+pub open-shift : (middle : Float) (xs : List Float) → Within 0 (shiftOf middle plusZero xs)
 unfolding shiftOf lt lib.Ieee.ofBits
-open-shift B middle xs = zero-within B
+open-shift middle xs = zero-within 0
 
--- ---- the area of at most 1,024 corners with parameters of at most 2 ^ k
+-- ---- the area of at most 1,024 corners with parameters of at most 2 ^ j and 2 ^ k
 
-module _ (k : ℕ) (small : k ≤ 400) (us vs : List Float) (hu : All (Within (2 ^ k)) us) (hv : All (Within (2 ^ k)) vs) where
-  cross-within : (i j : ℕ) → i < length us → i < length vs → j < length us → j < length vs → Within (2 ^ suc (k + k)) (crossAt us vs i j)
+module _ (j k : ℕ) (small : j + k ≤ 800) (us vs : List Float) (hu : All (Within (2 ^ j)) us) (hv : All (Within (2 ^ k)) vs) where
+  cross-within : (i n : ℕ) → i < length us → i < length vs → n < length us → n < length vs → Within (2 ^ suc (j + k)) (crossAt us vs i n)
   unfolding crossAt
-  cross-within i j iu iv ju jv =
-      sub-pow (k + k) (getD us i nan ⊗ getD vs j nan) (getD us j nan ⊗ getD vs i nan) (omega arith)
-      (mul-pow k k (getD us i nan) (getD vs j nan) (omega arith) (all-in hu i nan iu) (all-in hv j nan jv))
-      (mul-pow k k (getD us j nan) (getD vs i nan) (omega arith) (all-in hu j nan ju) (all-in hv i nan iv))
+  cross-within i n iu iv nu nv =
+      sub-pow (j + k) (getD us i nan ⊗ getD vs n nan) (getD us n nan ⊗ getD vs i nan) (omega arith)
+      (mul-pow j k (getD us i nan) (getD vs n nan) (omega arith) (all-in hu i nan iu) (all-in hv n nan nv))
+      (mul-pow j k (getD us n nan) (getD vs i nan) (omega arith) (all-in hu n nan nu) (all-in hv i nan iv))
 
-  sum-within : (n m : ℕ) → n ≤ length us → n ≤ length vs → n < 2 ^ 52 → m ≤ n → Within (m * 2 ^ suc (k + k)) (crossSum us vs n m)
+  sum-within : (n m : ℕ) → n ≤ length us → n ≤ length vs → n < 2 ^ 52 → m ≤ n → Within (m * 2 ^ suc (j + k)) (crossSum us vs n m)
   unfolding crossSum
-  sum-within n zero lu lv few l = zero-within (0 * 2 ^ suc (k + k))
+  sum-within n zero lu lv few l = zero-within (0 * 2 ^ suc (j + k))
   sum-within n (suc m) lu lv few l =
-      let C = 2 ^ suc (k + k) in
+      let C = 2 ^ suc (j + k) in
       let next : (m + 1) % n < n = mod-lt (m + 1) (omega arith) in
       let more : m * C + C ≡ suc m * C = ends m C in
       subst (λ (z : ℕ). Within z (crossSum us vs n m ⊕ crossAt us vs m ((m + 1) % n))) more
-      (add-within (m * C) C (crossSum us vs n m) (crossAt us vs m ((m + 1) % n)) (subst Held (sym more) (held-times (suc m) (suc (k + k)) (omega arith) (omega arith)))
+      (add-within (m * C) C (crossSum us vs n m) (crossAt us vs m ((m + 1) % n)) (subst Held (sym more) (held-times (suc m) (suc (j + k)) (omega arith) (omega arith)))
       (sum-within n m lu lv few (omega arith))
       (cross-within m ((m + 1) % n) (omega arith) (omega arith) (omega arith) (omega arith)))
     where
       ends : (m c : ℕ) → m * c + c ≡ suc m * c
       ends m c = omega arith
 
-  pub area-within : length us ≤ 1024 → Within (2 ^ (k + k + 10)) (areaOf us vs)
+  pub area-within : length us ≤ 1024 → Within (2 ^ (j + k + 10)) (areaOf us vs)
   unfolding areaOf
   area-within few =
       let n = min (length us) (length vs) in
-      half-within (2 ^ (k + k + 10)) (crossSum us vs n n) (held-pow (k + k + 10) (omega arith))
-      (within-more (n * 2 ^ suc (k + k)) (2 ^ (k + k + 10) + 2 ^ (k + k + 10)) (crossSum us vs n n)
-      (le-trans (mul-le-mul-right (2 ^ suc (k + k)) (least few)) (le-of-eq (powers k)))
+      half-within (2 ^ (j + k + 10)) (crossSum us vs n n) (held-pow (j + k + 10) (omega arith))
+      (within-more (n * 2 ^ suc (j + k)) (2 ^ (j + k + 10) + 2 ^ (j + k + 10)) (crossSum us vs n n)
+      (le-trans (mul-le-mul-right (2 ^ suc (j + k)) (least few)) (le-of-eq (powers (j + k))))
       (sum-within n n (omega arith) (omega arith) (omega arith) (omega arith)))
     where
       least : length us ≤ 1024 → min (length us) (length vs) ≤ 2 ^ 10
       least few = omega arith
 
-      powers : (k : ℕ) → 2 ^ 10 * 2 ^ suc (k + k) ≡ 2 ^ (k + k + 10) + 2 ^ (k + k + 10)
-      powers k = sym (pow-add 2 10 (suc (k + k))) ∙ ap (λ (z : ℕ). 2 ^ z) (exponents k) ∙ pow-suc 2 (k + k + 10) ∙ mul-comm (2 ^ (k + k + 10)) 2 ∙ two-mul (2 ^ (k + k + 10))
+      powers : (e : ℕ) → 2 ^ 10 * 2 ^ suc e ≡ 2 ^ (e + 10) + 2 ^ (e + 10)
+      powers e = sym (pow-add 2 10 (suc e)) ∙ ap (λ (z : ℕ). 2 ^ z) (exponents e) ∙ pow-suc 2 (e + 10) ∙ mul-comm (2 ^ (e + 10)) 2 ∙ two-mul (2 ^ (e + 10))
         where
-          exponents : (k : ℕ) → 10 + suc (k + k) ≡ suc (k + k + 10)
-          exponents k = omega arith
+          exponents : (e : ℕ) → 10 + suc e ≡ suc (e + 10)
+          exponents e = omega arith
 
 -- ---- the rungs between two bounded reals
 

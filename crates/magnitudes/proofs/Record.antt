@@ -5,7 +5,7 @@ use mathlib.Core.Logic.{_⊎_, inl, inr}
 use mathlib.Core.Bool.{Bool, true, false, cond}
 use mathlib.Core.List.{List, [], _∷_}
 use native.Mathlib.Omega.{arith}
-use borrow.Author.Tests.{ne-eqb, lt-ltb}
+use borrow.Author.Tests.{lt-ltb}
 use lib.Dec.{leb, lit<, lit≤}
 use lib.ListN.{length, take, drop, length-map, length-take, length-drop}
 use lib.Ieee.{Float}
@@ -39,6 +39,21 @@ use Rattle.judgement.proofs.Loops.{all-pieces, length-positions, length-paramet
 abbrev pub Million : ℕ
 Million = 1000000
 
+-- how large u can become where it comes round
+abbrev pub Turned : ℕ
+Turned = 1000
+
+-- how large u and v of a face record can be, by its kind
+abbrev pub givenU : ℕ → ℕ
+givenU k = cond (k =? plane) Million 64
+
+abbrev pub givenV : ℕ → ℕ
+givenV k = cond (leb k cone) Million 64
+
+-- and v of a closed face
+abbrev pub movedV : ℕ → ℕ
+movedV k = cond (leb k cone) Million Turned
+
 -- ---- the sizes of a surface
 
 first-within : (plane cone : Bool) (x : Float) → holds (cond plane (0·0 to 0·0) (cond cone (0·0 to 10^6) (10^-6 to 10^6))) x ≡ true → Within (2 ^ 22) x
@@ -65,25 +80,18 @@ surface-sizes k a b = go (k =? 0) (k =? 1) (k =? 2) (k =? 3) (k =? 4)
 
 -- ---- corners
 
--- parameters of at most P and a position of at most X
-pub record Sized (P X : ℕ) (c : Corner Vec3) : Type 0 where
-  pub u : Within P (c .u)
+-- u of at most A, v of at most P and a position of at most X
+pub record Sized (A P X : ℕ) (c : Corner Vec3) : Type 0 where
+  pub u : Within A (c .u)
   pub v : Within P (c .v)
   pub at : In X (c .at)
 
-pub corners-sized : (P X : ℕ) {us vs : List Float} {ps : List Vec3} → All (Within P) us → All (Within P) vs → All (In X) ps → All (Sized P X) (cornersFrom us vs ps)
+pub corners-sized : (A P X : ℕ) {us vs : List Float} {ps : List Vec3} → All (Within A) us → All (Within P) vs → All (In X) ps → All (Sized A P X) (cornersFrom us vs ps)
 unfolding cornersFrom
-corners-sized P X none hv hp = none
-corners-sized P X (and hu us) none hp = none
-corners-sized P X (and hu us) (and hv vs) none = none
-corners-sized P X (and hu us) (and hv vs) (and hp ps) = and (record { u = hu; v = hv; at = hp }) (corners-sized P X us vs ps)
-
-corners-near : (B : ℕ) {us : List Float} (vs : List Float) (ps : List Vec3) → All (Within B) us → All (λ (c : Corner Vec3). Within B (c .u)) (cornersFrom us vs ps)
-unfolding cornersFrom
-corners-near B vs ps none = none
-corners-near B [] ps (and hu us) = none
-corners-near B (v ∷ vs) [] (and hu us) = none
-corners-near B (v ∷ vs) (p ∷ ps) (and hu us) = and hu (corners-near B vs ps us)
+corners-sized A P X none hv hp = none
+corners-sized A P X (and hu us) none hp = none
+corners-sized A P X (and hu us) (and hv vs) none = none
+corners-sized A P X (and hu us) (and hv vs) (and hp ps) = and (record { u = hu; v = hv; at = hp }) (corners-sized A P X us vs ps)
 
 -- pieces that there is enough for have elements
 pieces-some : {A : Type 0} (ns : List ℕ) (xs : List A) → All (λ n. 3 ≤ n) ns → sum ns ≤ length xs → All (λ (r : List A). 0 < length r) (pieces ns xs)
@@ -137,38 +145,26 @@ module _ (s : List ℕ) (a : Accepted s) where
 
   -- ---- its parameters and positions
 
-  u-most : (u : Float) → holds (uRange (kind s)) u ≡ true → Within Million u
-  unfolding uRange
-  u-most u = go (kind s =? plane)
-    where
-      go : (t : Bool) → holds (cond t (upTo 10^6) (upTo 64·0)) u ≡ true → Within Million u
-      go true h = within-million u h
-      go false h = within-more 64 Million u (lit≤ tt) (within-64 u h)
+  -- of two limits the one that the kind has
+  most-of : (t : Bool) (x : Float) → holds (cond t (upTo 10^6) (upTo 64·0)) x ≡ true → Within (cond t Million 64) x
+  most-of true x h = within-million x h
+  most-of false x h = within-64 x h
 
-  v-most : (v : Float) → holds (vRange (kind s)) v ≡ true → Within Million v
+  u-most : (u : Float) → holds (uRange (kind s)) u ≡ true → Within (givenU (kind s)) u
+  unfolding uRange
+  u-most = most-of (kind s =? plane)
+
+  v-most : (v : Float) → holds (vRange (kind s)) v ≡ true → Within (givenV (kind s)) v
   unfolding vRange
-  v-most v = go (leb (kind s) cone)
-    where
-      go : (t : Bool) → holds (cond t (upTo 10^6) (upTo 64·0)) v ≡ true → Within Million v
-      go true h = within-million v h
-      go false h = within-more 64 Million v (lit≤ tt) (within-64 v h)
+  v-most = most-of (leb (kind s) cone)
 
-  u-near : (kind s ≡ plane → ⊥) → (u : Float) → holds (uRange (kind s)) u ≡ true → Within 64 u
-  unfolding uRange
-  u-near curved u h = within-64 u (ap (λ (t : Bool). holds (cond t (upTo 10^6) (upTo 64·0)) u) (sym (ne-eqb (kind s) plane curved)) ∙ h)
-
-  pub loops-sized : All (All (Sized Million Billion)) (loopsIn s)
+  pub loops-sized : All (All (Sized (givenU (kind s)) (givenV (kind s)) Billion)) (loopsIn s)
   unfolding loopsIn cornersIn
   loops-sized =
       let uvs = parameters-in-range s a in
       all-pieces (counts s)
-      (corners-sized Million Billion (all-map uOf (λ p h. u-most (p .u) (h .u)) uvs) (all-map vOf (λ p h. v-most (p .v) (h .v)) uvs)
+      (corners-sized (givenU (kind s)) (givenV (kind s)) Billion (all-map uOf (λ p h. u-most (p .u) (h .u)) uvs) (all-map vOf (λ p h. v-most (p .v) (h .v)) uvs)
       (all-so (λ p h. record { x = within-billion (p .x) (h .x); y = within-billion (p .y) (h .y); z = within-billion (p .z) (h .z) }) (positions-in-range s a)))
-
-  -- on a curved surface u is at most 64
-  pub loops-near : (kind s ≡ plane → ⊥) → All (All (λ (c : Corner Vec3). Within 64 (c .u))) (loopsIn s)
-  unfolding loopsIn cornersIn
-  loops-near curved = all-pieces (counts s) (corners-near 64 _ _ (all-map uOf (λ p h. u-near curved (p .u) (h .u)) (parameters-in-range s a)))
 
   length-corners : length (cornersIn s) ≡ points s
   unfolding cornersIn

@@ -1,21 +1,23 @@
 -- No result carries a NaN, an infinity or a number over 10^24, with the bounds that the three paths keep.
-use Prim.Native.Nat.{ℕ, _^_, _≤_}
+use Prim.Native.Nat.{ℕ, zero, suc, _+_, _*_, _^_, _≤_}
 use mathlib.Core.Path.{_≡_, refl, sym, ap, subst}
 use mathlib.Core.Logic.{_⊎_, inl, inr}
 use mathlib.Core.Bool.{Bool, true, false, cond, not}
 use mathlib.Core.List.{List, [], _∷_, _++_}
+use native.Mathlib.Nat.{le-refl, le-trans}
 use native.Mathlib.Omega.{arith}
-use borrow.Author.Tests.{eqb-false}
-use lib.Dec.{lit≤}
+use borrow.Author.Tests.{eqb-false, leb-true, ne-eqb}
+use lib.Dec.{leb, lit≤}
 use lib.ListN.{length, drop}
 use lib.Ieee.{Float}
 use Rattle.numbers.specs.Within.{Within}
 use Rattle.numbers.specs.declared.math.Vec3.{Vec3}
 use Rattle.numbers.proofs.Magnitude.{within-more}
-use Rattle.surfaces.specs.declared.surface.Period.{Period}
+use Rattle.numbers.proofs.math.Frames.{In, Billion}
 use Rattle.surfaces.specs.declared.surface.Period.the-variants.{Every, None}
+use Rattle.surfaces.specs.declared.surface.Surface.the-variants.{Plane, Cylinder, Cone, Sphere, Torus}
 use Rattle.surfaces.specs.Domains.{uPeriod, vPeriod}
-use Rattle.numbers.specs.Constants.{TAU}
+use Rattle.numbers.specs.Constants.{plusZero, TAU}
 use Rattle.loops.proofs.Trailing.{repeats-fewer}
 use Rattle.bands.specs.Band.{lowerRing, stripOf, outer}
 use Rattle.bands.specs.Corners.{Corner, Corners}
@@ -23,43 +25,148 @@ use Rattle.bands.specs.Given.{Measured, givenOf}
 use Rattle.records.specs.Accepted.{Accepted}
 use Rattle.records.specs.Bytes.{_=?_}
 use Rattle.records.specs.Call.{Outcome, refused, closed, code, lentAfter}
-use Rattle.records.specs.Face.{loops}
+use Rattle.records.specs.Face.{kind, loops, realOf}
+use Rattle.records.specs.Limits.{plane, cone}
 use Rattle.records.specs.Refusals.{NoneHolds}
 use Rattle.records.specs.Result.{Result, All, none, and, decode, cornersOf, resultOf}
 use Rattle.records.specs.Result as Result
 use Rattle.records.proofs.Closing.{closed-accepted, closed-read}
-use Rattle.judgement.specs.Face.{surfaceIn, uPeriodIn, vPeriodIn, periodLength, loopsIn, measuredIn, isWrapping, wrapping, settingIn, givenIn}
+use Rattle.judgement.specs.Face.{surfaceOf, surfaceIn, uPeriodIn, vPeriodIn, periodLength, loopsIn, measuredIn, isWrapping, wrapping, settingIn, givenIn}
 use Rattle.judgement.specs.Judge.{allConditions, judge}
 use Rattle.judgement.specs.Later.{laterConditions, stripPoints}
 use Rattle.judgement.specs.Paths.{ResultLoop, signedArea, loopsFrom, wrappedLoops, closedLoops, wholeLoop, uvOf, xyzOf, pathIn, resultLoops, resultIn}
 use Rattle.judgement.proofs.Demands.{two-wrap, strip-short, rings-whole, passed, can-be-written, over-zero}
+use Rattle.judgement.proofs.Doubles.{FitsCorner}
 use Rattle.judgement.proofs.Each.{all-append, all-only, all-map, all-so}
-use Rattle.judgement.proofs.Loops.{loops-many, loops-total, given-each}
+use Rattle.judgement.proofs.Loops.{loops-many, loops-total, loops-fit, given-each}
 use Rattle.judgement.proofs.Sizes.{total, each-short}
 use Rattle.judgement.proofs.Strips.{High, lower-low, upper-high}
-use Rattle.magnitudes.specs.Bounded.{EachReal, mostArea, mostParameter, mostCoordinate, ResultBounded}
-use Rattle.magnitudes.proofs.Bands.{both, curved, outer-sized, holes-sized}
-use Rattle.magnitudes.proofs.Closed.{SizedCorners, SizedLoop, GivenLoop, Round, area-sized, with-area-sized, given-sized, closed-sized}
-use Rattle.magnitudes.proofs.Record.{either-u, either-v, frame-framed, sizes-in, loops-sized, loops-near, loops-some}
+use Rattle.magnitudes.specs.Bounded.{EachReal, mostArea, mostU, mostV, mostCoordinate, ResultBounded}
+use Rattle.magnitudes.proofs.Bands.{curved, outer-sized, holes-sized}
+use Rattle.magnitudes.proofs.Closed.{SizedCorners, SizedLoop, GivenLoop, Way, area-sized, area-given, closed-sized}
+use Rattle.magnitudes.proofs.Loops.{all-both, Known}
+use Rattle.magnitudes.proofs.Record.{Million, Turned, givenU, givenV, movedV, Sized, either-v, frame-framed, sizes-in, loops-sized, loops-some}
 use Rattle.magnitudes.proofs.Rings.{Reach, GivenReach}
 use Rattle.magnitudes.proofs.Whole.{whole-sized}
 
-round-of : (p : Period) → (p ≡ None) ⊎ (p ≡ Every TAU) → Round (periodLength p)
-round-of p (inl e) = inr (ap periodLength e)
-round-of p (inr e) = inl (ap periodLength e)
+-- ---- the directions of a kind
+
+-- u of a plane is open; every other comes round
+u-way : (k : ℕ) (a b : Float) → Way (periodLength (uPeriod (surfaceOf k a b))) (givenU k) (mostU k)
+unfolding surfaceOf uPeriod
+u-way k a b = go (k =? 0) (k =? 1) (k =? 2) (k =? 3)
+  where
+    opens : Way plusZero Million Million
+    opens = record { given = lit≤ tt; moved = lit≤ tt; most = lit≤ tt; turns = inr refl }
+
+    comes : Way TAU 64 Turned
+    comes = record { given = lit≤ tt; moved = lit≤ tt; most = lit≤ tt; turns = inl (refl, refl) }
+
+    go : (t₀ t₁ t₂ t₃ : Bool)
+        → Way (periodLength (uPeriod (cond t₀ Plane (cond t₁ (Cylinder a) (cond t₂ (Cone a b) (cond t₃ (Sphere a) (Torus a b))))))) (cond t₀ Million 64) (cond t₀ Million Turned)
+    go true t₁ t₂ t₃ = opens
+    go false true t₂ t₃ = comes
+    go false false true t₃ = comes
+    go false false false true = comes
+    go false false false false = comes
+
+-- v of plane, cylinder and cone is open, with the wider limit; of the others that of the torus comes round
+v-open : (k : ℕ) (a b : Float) → k ≤ 2 → periodLength (vPeriod (surfaceOf k a b)) ≡ plusZero
+unfolding surfaceOf vPeriod
+v-open zero a b h = refl
+v-open (suc zero) a b h = refl
+v-open (suc (suc zero)) a b h = refl
+v-open (suc (suc (suc k))) a b h = absurd (omega arith)
+
+v-way : (k : ℕ) (a b : Float) → Way (periodLength (vPeriod (surfaceOf k a b))) (givenV k) (movedV k)
+v-way k a b = go (leb k cone) refl
+  where
+    go : (t : Bool) → leb k cone ≡ t → Way (periodLength (vPeriod (surfaceOf k a b))) (cond t Million 64) (cond t Million Turned)
+    go true e = record { given = lit≤ tt; moved = lit≤ tt; most = lit≤ tt; turns = inr (v-open k a b (leb-true k cone e)) }
+    go false e = record { given = lit≤ tt; moved = lit≤ tt; most = lit≤ tt; turns = either (either-v (surfaceOf k a b)) }
+      where
+        either : (vPeriod (surfaceOf k a b) ≡ None) ⊎ (vPeriod (surfaceOf k a b) ≡ Every TAU)
+            → ((periodLength (vPeriod (surfaceOf k a b)) ≡ TAU) × _≡_ {A = ℕ} 64 64) ⊎ (periodLength (vPeriod (surfaceOf k a b)) ≡ plusZero)
+        either (inl p) = inr (ap periodLength p)
+        either (inr p) = inl (ap periodLength p, refl)
+
+-- ---- the bounds of a kind
+
+-- v: given up to h, moved up to w, and of a result up to v
+record Heights (h w v : ℕ) : Type 0 where
+  given : h ≤ Million
+  rungs : 3 * (h + 7) ≤ v
+  moved : w ≤ v
+  most : v ≤ 2 ^ 22
+  whole : 21 ≤ v
+
+heights-of : (k : ℕ) → Heights (givenV k) (movedV k) (mostV k)
+heights-of k = go (leb k cone)
+  where
+    go : (t : Bool) → Heights (cond t Million 64) (cond t Million Turned) (cond t (2 ^ 22) 1000)
+    go true = record { given = lit≤ tt; rungs = lit≤ tt; moved = lit≤ tt; most = lit≤ tt; whole = lit≤ tt }
+    go false = record { given = lit≤ tt; rungs = lit≤ tt; moved = lit≤ tt; most = lit≤ tt; whole = lit≤ tt }
+
+turned-most : (B k : ℕ) → B ≤ Turned → B ≤ mostU k
+turned-most B k h = go (k =? plane)
+  where
+    go : (t : Bool) → B ≤ cond t Million Turned
+    go true = omega arith
+    go false = h
+
+u-few : (k : ℕ) → mostU k ≤ 10 ^ 24
+u-few k = go (k =? plane)
+  where
+    go : (t : Bool) → cond t Million Turned ≤ 10 ^ 24
+    go true = lit≤ tt
+    go false = lit≤ tt
+
+loop-more : (A B A′ B′ : ℕ) → A ≤ A′ → B ≤ B′ → (l : ResultLoop) → SizedLoop A B l → SizedLoop A′ B′ l
+loop-more A B A′ B′ h k l w = record {
+  area = w .area;
+  corners = all-so (λ c r. record { u = within-more A A′ (c .u) h (r .u); v = within-more B B′ (c .v) k (r .v); at = r .at }) (w .corners);
+}
 
 module _ (s : List ℕ) (a : Accepted s) where
-  given-loops : All GivenLoop (loopsIn s)
+  abbrev G : ℕ
+  G = givenU (kind s)
+
+  abbrev H : ℕ
+  H = givenV (kind s)
+
+  abbrev A : ℕ
+  A = mostU (kind s)
+
+  abbrev B : ℕ
+  B = mostV (kind s)
+
+  few : Heights H (movedV (kind s)) B
+  few = heights-of (kind s)
+
+  given-loops : All (GivenLoop G H) (loopsIn s)
   given-loops =
       let all = loops-total s in
       let most = a .total in
-      all-so (λ r w. record { some = w .0 .0; few = (let n = w .0 .1 in omega arith); sized = w .1 }) (both (both (loops-some s a) (each-short (loopsIn s))) (loops-sized s a))
+      all-so (λ r w. record { some = w .0 .0; few = (let n = w .0 .1 in omega arith); sized = w .1 .0; fit = w .1 .1 })
+      (all-both (all-both (loops-some s a) (each-short (loopsIn s))) (all-both (loops-sized s a) (loops-fit s)))
+
+  -- on a curved surface u is at most 64
+  module _ (curved : kind s ≡ plane → ⊥) where
+    few-u : G ≡ 64
+    few-u = ap (λ (t : Bool). cond t Million 64) (ne-eqb (kind s) plane curved)
+
+    near : (c : Corner Vec3) → Sized G H Billion c × FitsCorner c → Known 64 (c .u)
+    near c k = record { within = subst (λ (n : ℕ). Within n (c .u)) few-u (k .0 .u); fits = k .1 .u }
+
+    loops-near : All (All (λ (c : Corner Vec3). Known 64 (c .u))) (loopsIn s)
+    loops-near = all-so (λ r w. all-so near (all-both (w .0) (w .1))) (all-both (loops-sized s a) (loops-fit s))
 
   -- ---- the closed path
 
-  closed-path : (loops s ≡ 0 → ⊥) → All SizedLoop (closedLoops (uPeriodIn s) (vPeriodIn s) (loopsIn s))
+  closed-path : (loops s ≡ 0 → ⊥) → All (SizedLoop A (movedV (kind s))) (closedLoops (uPeriodIn s) (vPeriodIn s) (loopsIn s))
+  unfolding surfaceIn
   closed-path some =
-      closed-sized (uPeriodIn s) (vPeriodIn s) (round-of (uPeriod (surfaceIn s)) (either-u (surfaceIn s))) (round-of (vPeriod (surfaceIn s)) (either-v (surfaceIn s))) (loopsIn s)
+      closed-sized G H A (movedV (kind s)) (uPeriodIn s) (vPeriodIn s) (u-way (kind s) (realOf s 9) (realOf s 10)) (v-way (kind s) (realOf s 9) (realOf s 10)) (loopsIn s)
       (let n = loops-many s in omega arith) given-loops
 
   -- ---- a band
@@ -69,7 +176,7 @@ module _ (s : List ℕ) (a : Accepted s) where
   unfolding givenIn givenOf measuredIn
   holes-given Q h = all-map (λ (m : Measured Vec3). m .corners) (λ m w. w) (all-only (λ (m : Measured Vec3). not (isWrapping m)) (λ m e w. w) (all-map {Q = λ (m : Measured Vec3). Q (m .corners)} _ (λ r w. w) h))
 
-  loops-of-sized : {areas : List Float} {ls : List (Corners Vec3)} → All (Within (2 ^ 54)) areas → All SizedCorners ls → All SizedLoop (loopsFrom areas ls)
+  loops-of-sized : {areas : List Float} {ls : List (Corners Vec3)} → All (Within (2 ^ 50)) areas → All (SizedCorners Turned B) ls → All (SizedLoop Turned B) (loopsFrom areas ls)
   unfolding loopsFrom
   loops-of-sized none hs = none
   loops-of-sized (and h areas) none = none
@@ -78,13 +185,13 @@ module _ (s : List ℕ) (a : Accepted s) where
   module _ (lent : ℕ) (free : NoneHolds (allConditions lent) s) (some : wrapping s ≡ 0 → ⊥) where
     rings-given : GivenReach 64 (givenIn s)
     rings-given =
-        let near = loops-near s a (curved s some) in
-        let each = given-each s (λ (c : Corner Vec3). Within 64 (c .u)) near in
+        let near = loops-near (curved s some) in
+        let each = given-each s (λ (c : Corner Vec3). Known 64 (c .u)) near in
         let whole = rings-whole lent s free (two-wrap s (free 9) (free 10) some) in
         record {
           first = record { some = whole .some-first; each = each .first };
           later = record { some = whole .some-later; each = each .later };
-          holes = holes-given (Reach 64) (all-so (λ r w. record { some = w .0; each = w .1 }) (both (loops-some s a) near));
+          holes = holes-given (Reach 64) (all-so (λ r w. record { some = w .0; each = w .1 }) (all-both (loops-some s a) near));
         }
 
     -- the lower ring's v are as low as given
@@ -98,72 +205,84 @@ module _ (s : List ℕ) (a : Accepted s) where
         let n = strip-short lent s free some in
         omega arith
 
-    wrapped-path : All SizedLoop (wrappedLoops s)
+    -- v and the positions as given
+    loops-kept : All (All (λ (c : Corner Vec3). Within H (c .v) × In Billion (c .at))) (loopsIn s)
+    loops-kept = all-so (λ r k. all-so (λ c w. (w .v, w .at)) k) (loops-sized s a)
+
+    -- in powers of two, for the area
+    powers : (c : Corner Vec3) → Sized Turned B (2 ^ 32) c → Sized (2 ^ 10) (2 ^ 22) (2 ^ 32) c
+    powers c w = record { u = within-more Turned (2 ^ 10) (c .u) (lit≤ tt) (w .u); v = within-more B (2 ^ 22) (c .v) (few .most) (w .v); at = w .at }
+
+    wrapped-path : All (SizedLoop Turned B) (wrappedLoops s)
     unfolding wrappedLoops
     wrapped-path =
-        and (with-area-sized (outer (settingIn s) (givenIn s)) (outer-sized s a some rings-given (loops-sized s a) lower-high (upper-high s a)) outer-few)
-        (loops-of-sized (all-map signedArea (λ r h. area-sized r (given-sized r h) (h .few)) (holes-given GivenLoop given-loops))
-        (holes-sized s a some rings-given (loops-sized s a) lower-high (upper-high s a)))
+        let u = u-way (kind s) (realOf s 9) (realOf s 10) in
+        let v = v-way (kind s) (realOf s 9) (realOf s 10) in
+        let outer-are = outer-sized s a H B (few .given) (few .rungs) (few .most) some rings-given loops-kept lower-high (upper-high s a) in
+        and (record { area = area-sized 10 22 (2 ^ 32) (lit≤ tt) (outer (settingIn s) (givenIn s)) (all-so powers outer-are) outer-few; corners = outer-are })
+        (loops-of-sized (all-map signedArea (λ r h. area-given G H r h (le-trans (u .given) (u .most)) (le-trans (v .given) (v .most))) (holes-given (GivenLoop G H) given-loops))
+        (holes-sized s a H B (few .given) (few .rungs) (few .most) some rings-given loops-kept lower-high (upper-high s a)))
 
   -- ---- the three paths
 
   module _ (lent : ℕ) (free : NoneHolds (allConditions lent) s) where
-    loops-of-result : All SizedLoop (resultLoops s)
+    loops-of-result : All (SizedLoop A B) (resultLoops s)
     unfolding resultLoops
     loops-of-result = pick (loops s =? 0) (wrapping s =? 0) refl refl
       where
-        pick : (p q : Bool) → (loops s =? 0) ≡ p → (wrapping s =? 0) ≡ q → All SizedLoop (cond p (wholeLoop s ∷ []) (cond q (closedLoops (uPeriodIn s) (vPeriodIn s) (loopsIn s)) (wrappedLoops s)))
-        pick true q d e = and (whole-sized s (frame-framed s a) (sizes-in s a)) none
-        pick false true d e = closed-path (eqb-false (loops s) 0 d)
-        pick false false d e = wrapped-path lent free (eqb-false (wrapping s) 0 e)
+        pick : (p q : Bool) → (loops s =? 0) ≡ p → (wrapping s =? 0) ≡ q → All (SizedLoop A B) (cond p (wholeLoop s ∷ []) (cond q (closedLoops (uPeriodIn s) (vPeriodIn s) (loopsIn s)) (wrappedLoops s)))
+        pick true q d e = and (loop-more 21 21 A B (turned-most 21 (kind s) (lit≤ tt)) (few .whole) _ (whole-sized s (frame-framed s a) (sizes-in s a))) none
+        pick false true d e = all-so (loop-more A (movedV (kind s)) A B (le-refl A) (few .moved)) (closed-path (eqb-false (loops s) 0 d))
+        pick false false d e = all-so (loop-more Turned B A B (turned-most Turned (kind s) (lit≤ tt)) (le-refl B)) (wrapped-path lent free (eqb-false (wrapping s) 0 e))
 
 -- ---- the bytes
 
-all-corners : {ls : List ResultLoop} → All SizedLoop ls → SizedCorners (cornersOf ls)
+all-corners : (A B : ℕ) {ls : List ResultLoop} → All (SizedLoop A B) ls → SizedCorners A B (cornersOf ls)
 unfolding cornersOf
-all-corners none = none
-all-corners (and h hs) = all-append (h .corners) (all-corners hs)
+all-corners A B none = none
+all-corners A B (and h hs) = all-append (h .corners) (all-corners A B hs)
 
 -- all reals of a result that is made of such loops
-result-within : (path : ℕ) {ls : List ResultLoop} → All SizedLoop ls → EachReal (Within (2 ^ 54)) (Within (2 ^ 22)) (Within (2 ^ 32)) (resultOf uvOf xyzOf path ls)
-unfolding resultOf
-result-within path h =
-    let cs = all-corners h in
-    record { areas = all-map Result.areaOf (λ l w. w .area) h; parameters = all-map uvOf (λ c w. record { u = w .u; v = w .v }) cs; positions = all-map xyzOf (λ c w. w .at) cs }
+abbrev Held : ℕ → ℕ → Result → Type 0
+Held A B = EachReal (Within mostArea) (Within A) (Within B) (Within mostCoordinate)
 
-bytes-within : (lent : ℕ) (s b : List ℕ) → judge lent s ≡ closed b → (rest : List ℕ) → EachReal (Within (2 ^ 54)) (Within (2 ^ 22)) (Within (2 ^ 32)) (decode (b ++ rest))
+result-within : (A B path : ℕ) {ls : List ResultLoop} → All (SizedLoop A B) ls → Held A B (resultOf uvOf xyzOf path ls)
+unfolding resultOf
+result-within A B path h =
+    let cs = all-corners A B h in
+    record { areas = all-map Result.areaOf (λ l w. w .area) h; us = all-map uvOf (λ c w. w .u) cs; vs = all-map uvOf (λ c w. w .v) cs; positions = all-map xyzOf (λ c w. w .at) cs }
+
+bytes-within : (lent : ℕ) (s b : List ℕ) → judge lent s ≡ closed b → (rest : List ℕ) → Held (mostU (kind s)) (mostV (kind s)) (decode (b ++ rest))
 unfolding resultIn
 bytes-within lent s b h rest =
-    subst (EachReal (Within (2 ^ 54)) (Within (2 ^ 22)) (Within (2 ^ 32))) (sym (closed-read laterConditions resultIn lent s b h (can-be-written lent s b h) rest))
-    (result-within (pathIn s) (loops-of-result s (closed-accepted laterConditions resultIn lent s b h) lent (passed lent s b h)))
+    subst (Held (mostU (kind s)) (mostV (kind s))) (sym (closed-read laterConditions resultIn lent s b h (can-be-written lent s b h) rest))
+    (result-within (mostU (kind s)) (mostV (kind s)) (pathIn s) (loops-of-result s (closed-accepted laterConditions resultIn lent s b h) lent (passed lent s b h)))
 
--- what follows of each real from its own bound
-each-so : {A A′ P P′ X X′ : Float → Type 0} → ((x : Float) → A x → A′ x) → ((x : Float) → P x → P′ x) → ((x : Float) → X x → X′ x) → (r : Result) → EachReal A P X r → EachReal A′ P′ X′ r
-each-so a p x r h = record {
-  areas = all-so a (h .areas);
-  parameters = all-so (λ c w. record { u = p (c .u) (w .u); v = p (c .v) (w .v) }) (h .parameters);
-  positions = all-so (λ c w. record { x = x (c .x) (w .x); y = x (c .y) (w .y); z = x (c .z) (w .z) }) (h .positions);
+-- all are below 10 ^ 24
+far-below : (A B : ℕ) → A ≤ 10 ^ 24 → B ≤ 10 ^ 24 → (r : Result) → Held A B r → EachReal (Within (10 ^ 24)) (Within (10 ^ 24)) (Within (10 ^ 24)) (Within (10 ^ 24)) r
+far-below A B u-few v-few r h = record {
+  areas = all-so (λ x w. within-more mostArea (10 ^ 24) x (lit≤ tt) w) (h .areas);
+  us = all-so (λ p w. within-more A (10 ^ 24) (p .u) u-few w) (h .us);
+  vs = all-so (λ p w. within-more B (10 ^ 24) (p .v) v-few w) (h .vs);
+  positions = all-so (λ p w. record { x = most (p .x) (w .x); y = most (p .y) (w .y); z = most (p .z) (w .z) }) (h .positions);
 }
-
-more : (m n : ℕ) → m ≤ n → (x : Float) → Within m x → Within n x
-more m n h x = within-more m n x h
+  where
+    most : (x : Float) → Within mostCoordinate x → Within (10 ^ 24) x
+    most x w = within-more mostCoordinate (10 ^ 24) x (lit≤ tt) w
 
 -- the bounds of each real of the lent bytes, from which those that are claimed follow
 module _ (s old : List ℕ) where
   abbrev lent : ℕ
   lent = length old
 
-  bounded-of : (o : Outcome) → judge lent s ≡ o → ResultBounded (code o) (lentAfter o old)
+  bounded-of : (o : Outcome) → judge lent s ≡ o → ResultBounded s (code o) (lentAfter o old)
   bounded-of (refused n p) e =
       let some = over-zero s old n p e in
       record { bounded = λ z. absurd (omega arith); narrow = λ z. absurd (omega arith) }
   bounded-of (closed b) e =
       let new = b ++ drop (length b) old in
       let each = bytes-within lent s b e (drop (length b) old) in
-      record {
-        bounded = λ z. each-so (more (2 ^ 54) (10 ^ 24) (lit≤ tt)) (more (2 ^ 22) (10 ^ 24) (lit≤ tt)) (more (2 ^ 32) (10 ^ 24) (lit≤ tt)) (decode new) each;
-        narrow = λ z. each-so (more (2 ^ 54) mostArea (lit≤ tt)) (more (2 ^ 22) mostParameter (lit≤ tt)) (more (2 ^ 32) mostCoordinate (lit≤ tt)) (decode new) each;
-      }
+      record { bounded = λ z. far-below (mostU (kind s)) (mostV (kind s)) (u-few (kind s)) (le-trans (heights-of (kind s) .most) (lit≤ tt)) (decode new) each; narrow = λ z. each }
 
-  pub result-bounded : ResultBounded (code (judge lent s)) (lentAfter (judge lent s) old)
+  pub result-bounded : ResultBounded s (code (judge lent s)) (lentAfter (judge lent s) old)
   result-bounded = bounded-of (judge lent s) refl

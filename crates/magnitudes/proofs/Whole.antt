@@ -100,10 +100,10 @@ module _ (f : Frame) (w : Framed f) where
   abbrev cornerAt : Surface → Vec2 → Corner Vec3
   cornerAt s c = record { u = c .u; v = c .v; at = positionOf s f c }
 
-  corner-sized : (s : Surface) → Sizes s → Within 21 (domainOf s .u .lo) → Within 21 (domainOf s .v .lo) → (c : Vec2) → EachUv (Within 21) c → Sized (2 ^ 22) (2 ^ 32) (cornerAt s c)
-  corner-sized s z lu lv c h = record { u = within-more 21 (2 ^ 22) (c .u) (lit≤ tt) (h .u); v = within-more 21 (2 ^ 22) (c .v) (lit≤ tt) (h .v); at = position-in s z lu lv c h }
+  corner-sized : (s : Surface) → Sizes s → Within 21 (domainOf s .u .lo) → Within 21 (domainOf s .v .lo) → (c : Vec2) → EachUv (Within 21) c → Sized 21 21 (2 ^ 32) (cornerAt s c)
+  corner-sized s z lu lv c h = record { u = h .u; v = h .v; at = position-in s z lu lv c h }
 
-  corners-whole : (s : Surface) (o : Resolved) → Sizes s → SizedCorners (map (cornerAt s) (wholeCorners s o))
+  corners-whole : (s : Surface) (o : Resolved) → Sizes s → SizedCorners 21 21 (map (cornerAt s) (wholeCorners s o))
   unfolding wholeCorners domainOf
   corners-whole Plane o z = none
   corners-whole (Cylinder R) o z = none
@@ -114,14 +114,14 @@ module _ (f : Frame) (w : Framed f) where
 
 -- ---- the path
 
-area-whole : (s : Surface) (o : Resolved) → Within (2 ^ 54) (wholeArea s o)
+area-whole : (s : Surface) (o : Resolved) → Within (2 ^ 50) (wholeArea s o)
 unfolding wholeArea
 area-whole s o =
     let cs = wholeCorners s o in
-    area-within 22 (lit≤ tt) (usOf cs) (vsOf cs) (all-map (λ (c : Vec2). c .u) (λ c h. within-more 21 (2 ^ 22) (c .u) (lit≤ tt) (h .u)) (corners-within s o))
-    (all-map (λ (c : Vec2). c .v) (λ c h. within-more 21 (2 ^ 22) (c .v) (lit≤ tt) (h .v)) (corners-within s o))
+    area-within 20 20 (lit≤ tt) (usOf cs) (vsOf cs) (all-map (λ (c : Vec2). c .u) (λ c h. within-more 21 (2 ^ 20) (c .u) (lit≤ tt) (h .u)) (corners-within s o))
+    (all-map (λ (c : Vec2). c .v) (λ c h. within-more 21 (2 ^ 20) (c .v) (lit≤ tt) (h .v)) (corners-within s o))
     (let n = few-corners s o in let e = length-map cs (λ (c : Vec2). c .u) in omega arith)
 
-pub whole-sized : (s : List ℕ) → Framed (frameIn s) → Sizes (surfaceIn s) → SizedLoop (wholeLoop s)
+pub whole-sized : (s : List ℕ) → Framed (frameIn s) → Sizes (surfaceIn s) → SizedLoop 21 21 (wholeLoop s)
 unfolding wholeLoop
 whole-sized s w z = record { area = area-whole (surfaceIn s) (optionsIn s); corners = corners-whole (frameIn s) w (surfaceIn s) (optionsIn s) z }

@@ -2,35 +2,48 @@
 -- `Within B x` says that x is finite and at most B in size, so it rules out a NaN, an infinity and a number over B at once.
 use Prim.Native.Nat.{ℕ, _^_}
 use mathlib.Core.Path.{_≡_}
+use mathlib.Core.Bool.{cond}
 use mathlib.Core.List.{List}
+use lib.Dec.{leb}
 use lib.Ieee.{Float}
-use Rattle.numbers.specs.Within.{Within, EachUv, EachXyz}
+use Rattle.numbers.specs.Within.{Within, EachXyz}
+use Rattle.numbers.specs.declared.math.Vec2.{Vec2}
+use Rattle.records.specs.Bytes.{_=?_}
+use Rattle.records.specs.Face.{kind}
+use Rattle.records.specs.Limits.{plane, cone}
 use Rattle.records.specs.Result.{Result, All, decode}
 
--- what holds of every area, of every parameter and of every coordinate of a result
-pub record EachReal (area parameter coordinate : Float → Type 0) (r : Result) : Type 0 where
+-- what holds of every area, of every u, of every v and of every coordinate of a result
+pub record EachReal (area u v coordinate : Float → Type 0) (r : Result) : Type 0 where
   pub areas : All area (r .areas)
-  pub parameters : All (EachUv parameter) (r .parameters)
+  pub us : All (λ (p : Vec2). u (p .u)) (r .parameters)
+  pub vs : All (λ (p : Vec2). v (p .v)) (r .parameters)
   pub positions : All (EachXyz coordinate) (r .positions)
 
 -- no real is over 10^24 in size: what 02, N9, asks of the results that are handed in
 abbrev pub Bounded : List ℕ → Type 0
-Bounded b = EachReal (Within (10 ^ 24)) (Within (10 ^ 24)) (Within (10 ^ 24)) (decode b)
+Bounded b = EachReal (Within (10 ^ 24)) (Within (10 ^ 24)) (Within (10 ^ 24)) (Within (10 ^ 24)) (decode b)
 
--- the same, nearer to what the limits of a face record give: areas at most 18,014,398,509,481,984, parameters 4,194,304, coordinates 4,294,967,296
+-- the same, nearer to what the limits of a face record give: areas at most 1,125,899,906,842,624, coordinates at most 4,294,967,296
 abbrev pub mostArea : ℕ
-mostArea = 2 ^ 54
-
-abbrev pub mostParameter : ℕ
-mostParameter = 2 ^ 22
+mostArea = 2 ^ 50
 
 abbrev pub mostCoordinate : ℕ
 mostCoordinate = 2 ^ 32
 
-abbrev pub Narrow : List ℕ → Type 0
-Narrow b = EachReal (Within mostArea) (Within mostParameter) (Within mostCoordinate) (decode b)
+-- u, by the kind: on a plane as large as the record may give it. Of the other kinds the record gives it up to 64, and each shift by whole periods is longer than the distance that it takes up by at most one period and 2 ^ -40 (`LeavesHalf` and `LeavesTurn` of loops); docs/MAGNITUDES.md adds them up.
+abbrev pub mostU : ℕ → ℕ
+mostU k = cond (k =? plane) 1000000 1000
 
--- of the lent bytes after a call that closed its face
-pub record ResultBounded (code : ℕ) (new : List ℕ) : Type 0 where
+-- v, by the kind: at most 4,194,304 on plane, cylinder and cone, and 1,000 on sphere and torus, where the record gives it up to 64
+abbrev pub mostV : ℕ → ℕ
+mostV k = cond (leb k cone) (2 ^ 22) 1000
+
+-- of the face record s, and of the result's bytes
+abbrev pub Narrow : List ℕ → List ℕ → Type 0
+Narrow s b = EachReal (Within mostArea) (Within (mostU (kind s))) (Within (mostV (kind s))) (Within mostCoordinate) (decode b)
+
+-- of the lent bytes after a call that closed the face of the record s
+pub record ResultBounded (s : List ℕ) (code : ℕ) (new : List ℕ) : Type 0 where
   pub bounded : code ≡ 0 → Bounded new
-  pub narrow : code ≡ 0 → Narrow new
+  pub narrow : code ≡ 0 → Narrow s new

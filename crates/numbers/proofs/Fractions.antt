@@ -153,12 +153,8 @@ module _ (n : ℕ) (few : n ≤ 2 ^ 53) where
   pub count-within : Within n (count n)
   count-within = value-at-least (count n) n whole-value .1
 
--- ---- TAU lies between 6 and 7
+-- ---- TAU is at most 7
 
 pub turn-within : Within 7 TAU
 unfolding ofBits
 turn-within = lit≤ tt
-
-pub turn-at-least : AtLeast 6 1 TAU
-unfolding ofBits
-turn-at-least = lit≤ tt

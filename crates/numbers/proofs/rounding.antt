@@ -2,4 +2,3 @@ pub mod Laws
 pub mod Meaning
 pub mod Cast
 pub mod Count
-pub mod Bounds
