@@ -39,9 +39,10 @@ use Rattle.judgement.proofs.Loops.{loops-fit, given-each}
 use Rattle.judgement.proofs.Rings.{EachGiven, pick-each, holes-each}
 use Rattle.judgement.proofs.Sizes.{only-none}
 use Rattle.judgement.proofs.Strips.{High, steps-few}
+use Rattle.magnitudes.specs.Bounded.{mostAngle}
 use Rattle.magnitudes.proofs.Closed.{SizedCorners}
 use Rattle.magnitudes.proofs.Loops.{all-both, Known, rungs-each-within}
-use Rattle.magnitudes.proofs.Record.{Million, Turned, Sized, either-u, either-v, frame-framed, sizes-in}
+use Rattle.magnitudes.proofs.Record.{Million, Sized, either-u, either-v, frame-framed, sizes-in}
 use Rattle.magnitudes.proofs.Rings.{Reach, Reaches, GivenReach, started-reach}
 
 -- ---- a face of which a loop wraps: u comes round by TAU, and the surface is curved
@@ -121,9 +122,9 @@ module _ (s : List ℕ) (a : Accepted s) (H B : ℕ) (given : H ≤ Million) (ro
     high : High s a (c .v)
     at : In Billion (c .at)
 
-  ringed-sized : (c : Corner Vec3) → Ringed c → Sized Turned B (2 ^ 32) c
+  ringed-sized : (c : Corner Vec3) → Ringed c → Sized mostAngle B (2 ^ 32) c
   ringed-sized c h = record {
-    u = within-more 645 Turned (c .u) (lit≤ tt) (h .u);
+    u = within-more 645 mostAngle (c .u) (lit≤ tt) (h .u);
     v = within-more R B (c .v) (omega arith) (h .v);
     at = in-more Billion (2 ^ 32) (c .at) (lit≤ tt) (h .at);
   }
@@ -132,14 +133,14 @@ module _ (s : List ℕ) (a : Accepted s) (H B : ℕ) (given : H ≤ Million) (ro
     period-within : Within 7 (S .period)
     period-within = subst (Within 7) (sym (period-is s some)) turn-within
 
-    wall-sized : (begin u : Float) → Within Turned begin → Within Turned u → {vs : List Float} → All (Within B) vs → SizedCorners Turned B (wall S begin u vs)
+    wall-sized : (begin u : Float) → Within mostAngle begin → Within mostAngle u → {vs : List Float} → All (Within B) vs → SizedCorners mostAngle B (wall S begin u vs)
     unfolding settingIn
     wall-sized begin u p q h =
         all-map _ (λ v w.
         let high = within-more B (2 ^ 22) v most w in
-        record { u = q; v = w; at = point-in (frameIn s) (frame-framed s a) begin v (within-more Turned (2 ^ 22) begin (lit≤ tt) p) high (surfaceIn s) (sizes-in s a) }) h
+        record { u = q; v = w; at = point-in (frameIn s) (frame-framed s a) begin v (within-more mostAngle (2 ^ 22) begin (lit≤ tt) p) high (surfaceIn s) (sizes-in s a) }) h
 
-    strip-sized : (lower upper : Corners Vec3) → All Ringed lower → All Ringed upper → SizedCorners Turned B (strip S lower upper)
+    strip-sized : (lower upper : Corners Vec3) → All Ringed lower → All Ringed upper → SizedCorners mostAngle B (strip S lower upper)
     unfolding strip
     strip-sized [] upper p q = all-reverse (all-so ringed-sized q)
     strip-sized (l ∷ lower) [] p q = all-so ringed-sized p
@@ -148,7 +149,7 @@ module _ (s : List ℕ) (a : Accepted s) (H B : ℕ) (given : H ≤ Million) (ro
         let d = all-first q in
         let begin = ringed-sized l c .u in
         let far : Within 652 (l .u ⊕ S .period) = add-within 645 7 (l .u) (S .period) (held-small 652 (lit< tt)) (c .u) period-within in
-        let end : Within Turned (l .u ⊕ S .period) = within-more 652 Turned (l .u ⊕ S .period) (lit≤ tt) far in
+        let end : Within mostAngle (l .u ⊕ S .period) = within-more 652 mostAngle (l .u ⊕ S .period) (lit≤ tt) far in
         let up = heights-within (l .v) (u .v) (c .v) (d .v) (c .high) (d .high) in
         all-append (all-append (all-append (all-so ringed-sized p) (and (record { u = end; v = ringed-sized l c .v; at = ringed-sized l c .at }) (wall-sized (l .u) (l .u ⊕ S .period) begin end up)))
         (and (record { u = end; v = ringed-sized u d .v; at = ringed-sized u d .at }) (all-reverse (all-so ringed-sized q))))
@@ -187,15 +188,15 @@ module _ (s : List ℕ) (a : Accepted s) (H B : ℕ) (given : H ≤ Million) (ro
           (all-both (all-map {Q = λ (c : Corner Vec3). Known 645 (c .u) × (Within R (c .v) × In Billion (c .at))} _ (λ c w. (w .0, (lift-within H given (vPeriod (surfaceIn s)) (either-v (surfaceIn s)) _ _ _ _ (c .v) (w .1 .0), w .1 .1)))
           (all-both (picked-reach t .each) (pick-each (λ f to c k. k) S (givenIn s) given-kept t))) high)
 
-      pub outer-sized : SizedCorners Turned B (outer S (givenIn s))
+      pub outer-sized : SizedCorners mostAngle B (outer S (givenIn s))
       unfolding outer stripOf
       outer-sized = all-dropRepeats _ (stripOf S (givenIn s)) (strip-sized (lowerRing S (givenIn s)) (upperRing S (givenIn s)) lower-ringed upper-ringed)
 
-      pub holes-sized : All (SizedCorners Turned B) (holes S (givenIn s))
+      pub holes-sized : All (SizedCorners mostAngle B) (holes S (givenIn s))
       unfolding holes
       holes-sized =
           all-so (λ r w. all-so (λ c k. record {
-            u = k .0 .within;
+            u = within-more 1000 mostAngle (c .u) (lit≤ tt) (k .0 .within);
             v = within-more H B (c .v) (omega arith) (k .1 .0);
             at = in-more Billion (2 ^ 32) (c .at) (lit≤ tt) (k .1 .1);
           }) (all-both (w .0 .each) (w .1)))

@@ -32,16 +32,13 @@ use Rattle.records.proofs.Accepted.{parameters-in-range, positions-in-range, po
 use Rattle.records.proofs.Bounds.{within-billion, within-million, within-64, length-within, radius-within, none-within, angle-under}
 use Rattle.records.proofs.Ranges.{range-head}
 use Rattle.records.proofs.Rows.{all-rowAt}
+use Rattle.magnitudes.specs.Bounded.{mostAngle}
 use Rattle.judgement.specs.Face.{vectorIn, frameIn, surfaceOf, surfaceIn, cornersFrom, cornersIn, loopsIn}
 use Rattle.judgement.proofs.Each.{all-map, all-so}
 use Rattle.judgement.proofs.Loops.{all-pieces, length-positions, length-parameters, positions-of}
 
 abbrev pub Million : ℕ
 Million = 1000000
-
--- how large u can become where it comes round
-abbrev pub Turned : ℕ
-Turned = 1000
 
 -- how large u and v of a face record can be, by its kind
 abbrev pub givenU : ℕ → ℕ
@@ -52,7 +49,7 @@ givenV k = cond (leb k cone) Million 64
 
 -- and v of a closed face
 abbrev pub movedV : ℕ → ℕ
-movedV k = cond (leb k cone) Million Turned
+movedV k = cond (leb k cone) Million mostAngle
 
 -- ---- the sizes of a surface
 

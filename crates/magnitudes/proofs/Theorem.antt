@@ -41,11 +41,11 @@ use Rattle.judgement.proofs.Each.{all-append, all-only, all-map, all-so}
 use Rattle.judgement.proofs.Loops.{loops-many, loops-total, loops-fit, given-each}
 use Rattle.judgement.proofs.Sizes.{total, each-short}
 use Rattle.judgement.proofs.Strips.{High, lower-low, upper-high}
-use Rattle.magnitudes.specs.Bounded.{EachReal, mostArea, mostU, mostV, mostCoordinate, ResultBounded}
+use Rattle.magnitudes.specs.Bounded.{EachReal, mostArea, mostAngle, mostPlaneU, mostHeight, mostU, mostV, mostCoordinate, ResultBounded}
 use Rattle.magnitudes.proofs.Bands.{curved, outer-sized, holes-sized}
 use Rattle.magnitudes.proofs.Closed.{SizedCorners, SizedLoop, GivenLoop, Way, area-sized, area-given, closed-sized}
 use Rattle.magnitudes.proofs.Loops.{all-both, Known}
-use Rattle.magnitudes.proofs.Record.{Million, Turned, givenU, givenV, movedV, Sized, either-v, frame-framed, sizes-in, loops-sized, loops-some}
+use Rattle.magnitudes.proofs.Record.{Million, givenU, givenV, movedV, Sized, either-v, frame-framed, sizes-in, loops-sized, loops-some}
 use Rattle.magnitudes.proofs.Rings.{Reach, GivenReach}
 use Rattle.magnitudes.proofs.Whole.{whole-sized}
 
@@ -56,14 +56,14 @@ u-way : (k : ℕ) (a b : Float) → Way (periodLength (uPeriod (surfaceOf k a b)
 unfolding surfaceOf uPeriod
 u-way k a b = go (k =? 0) (k =? 1) (k =? 2) (k =? 3)
   where
-    opens : Way plusZero Million Million
+    opens : Way plusZero Million mostPlaneU
     opens = record { given = lit≤ tt; moved = lit≤ tt; most = lit≤ tt; turns = inr refl }
 
-    comes : Way TAU 64 Turned
+    comes : Way TAU 64 mostAngle
     comes = record { given = lit≤ tt; moved = lit≤ tt; most = lit≤ tt; turns = inl (refl, refl) }
 
     go : (t₀ t₁ t₂ t₃ : Bool)
-        → Way (periodLength (uPeriod (cond t₀ Plane (cond t₁ (Cylinder a) (cond t₂ (Cone a b) (cond t₃ (Sphere a) (Torus a b))))))) (cond t₀ Million 64) (cond t₀ Million Turned)
+        → Way (periodLength (uPeriod (cond t₀ Plane (cond t₁ (Cylinder a) (cond t₂ (Cone a b) (cond t₃ (Sphere a) (Torus a b))))))) (cond t₀ Million 64) (cond t₀ mostPlaneU mostAngle)
     go true t₁ t₂ t₃ = opens
     go false true t₂ t₃ = comes
     go false false true t₃ = comes
@@ -81,7 +81,7 @@ v-open (suc (suc (suc k))) a b h = absurd (omega arith)
 v-way : (k : ℕ) (a b : Float) → Way (periodLength (vPeriod (surfaceOf k a b))) (givenV k) (movedV k)
 v-way k a b = go (leb k cone) refl
   where
-    go : (t : Bool) → leb k cone ≡ t → Way (periodLength (vPeriod (surfaceOf k a b))) (cond t Million 64) (cond t Million Turned)
+    go : (t : Bool) → leb k cone ≡ t → Way (periodLength (vPeriod (surfaceOf k a b))) (cond t Million 64) (cond t Million mostAngle)
     go true e = record { given = lit≤ tt; moved = lit≤ tt; most = lit≤ tt; turns = inr (v-open k a b (leb-true k cone e)) }
     go false e = record { given = lit≤ tt; moved = lit≤ tt; most = lit≤ tt; turns = either (either-v (surfaceOf k a b)) }
       where
@@ -103,21 +103,21 @@ record Heights (h w v : ℕ) : Type 0 where
 heights-of : (k : ℕ) → Heights (givenV k) (movedV k) (mostV k)
 heights-of k = go (leb k cone)
   where
-    go : (t : Bool) → Heights (cond t Million 64) (cond t Million Turned) (cond t (2 ^ 22) 1000)
+    go : (t : Bool) → Heights (cond t Million 64) (cond t Million mostAngle) (cond t mostHeight mostAngle)
     go true = record { given = lit≤ tt; rungs = lit≤ tt; moved = lit≤ tt; most = lit≤ tt; whole = lit≤ tt }
     go false = record { given = lit≤ tt; rungs = lit≤ tt; moved = lit≤ tt; most = lit≤ tt; whole = lit≤ tt }
 
-turned-most : (B k : ℕ) → B ≤ Turned → B ≤ mostU k
-turned-most B k h = go (k =? plane)
+angle-most : (B k : ℕ) → B ≤ mostAngle → B ≤ mostU k
+angle-most B k h = go (k =? plane)
   where
-    go : (t : Bool) → B ≤ cond t Million Turned
-    go true = omega arith
+    go : (t : Bool) → B ≤ cond t mostPlaneU mostAngle
+    go true = le-trans h (lit≤ tt)
     go false = h
 
 u-few : (k : ℕ) → mostU k ≤ 10 ^ 24
 u-few k = go (k =? plane)
   where
-    go : (t : Bool) → cond t Million Turned ≤ 10 ^ 24
+    go : (t : Bool) → cond t mostPlaneU mostAngle ≤ 10 ^ 24
     go true = lit≤ tt
     go false = lit≤ tt
 
@@ -176,7 +176,7 @@ module _ (s : List ℕ) (a : Accepted s) where
   unfolding givenIn givenOf measuredIn
   holes-given Q h = all-map (λ (m : Measured Vec3). m .corners) (λ m w. w) (all-only (λ (m : Measured Vec3). not (isWrapping m)) (λ m e w. w) (all-map {Q = λ (m : Measured Vec3). Q (m .corners)} _ (λ r w. w) h))
 
-  loops-of-sized : {areas : List Float} {ls : List (Corners Vec3)} → All (Within (2 ^ 50)) areas → All (SizedCorners Turned B) ls → All (SizedLoop Turned B) (loopsFrom areas ls)
+  loops-of-sized : {areas : List Float} {ls : List (Corners Vec3)} → All (Within (2 ^ 50)) areas → All (SizedCorners mostAngle B) ls → All (SizedLoop mostAngle B) (loopsFrom areas ls)
   unfolding loopsFrom
   loops-of-sized none hs = none
   loops-of-sized (and h areas) none = none
@@ -210,10 +210,10 @@ module _ (s : List ℕ) (a : Accepted s) where
     loops-kept = all-so (λ r k. all-so (λ c w. (w .v, w .at)) k) (loops-sized s a)
 
     -- in powers of two, for the area
-    powers : (c : Corner Vec3) → Sized Turned B (2 ^ 32) c → Sized (2 ^ 10) (2 ^ 22) (2 ^ 32) c
-    powers c w = record { u = within-more Turned (2 ^ 10) (c .u) (lit≤ tt) (w .u); v = within-more B (2 ^ 22) (c .v) (few .most) (w .v); at = w .at }
+    powers : (c : Corner Vec3) → Sized mostAngle B (2 ^ 32) c → Sized (2 ^ 10) (2 ^ 22) (2 ^ 32) c
+    powers c w = record { u = within-more mostAngle (2 ^ 10) (c .u) (lit≤ tt) (w .u); v = within-more B (2 ^ 22) (c .v) (few .most) (w .v); at = w .at }
 
-    wrapped-path : All (SizedLoop Turned B) (wrappedLoops s)
+    wrapped-path : All (SizedLoop mostAngle B) (wrappedLoops s)
     unfolding wrappedLoops
     wrapped-path =
         let u = u-way (kind s) (realOf s 9) (realOf s 10) in
@@ -231,9 +231,9 @@ module _ (s : List ℕ) (a : Accepted s) where
     loops-of-result = pick (loops s =? 0) (wrapping s =? 0) refl refl
       where
         pick : (p q : Bool) → (loops s =? 0) ≡ p → (wrapping s =? 0) ≡ q → All (SizedLoop A B) (cond p (wholeLoop s ∷ []) (cond q (closedLoops (uPeriodIn s) (vPeriodIn s) (loopsIn s)) (wrappedLoops s)))
-        pick true q d e = and (loop-more 21 21 A B (turned-most 21 (kind s) (lit≤ tt)) (few .whole) _ (whole-sized s (frame-framed s a) (sizes-in s a))) none
+        pick true q d e = and (loop-more 21 21 A B (angle-most 21 (kind s) (lit≤ tt)) (few .whole) _ (whole-sized s (frame-framed s a) (sizes-in s a))) none
         pick false true d e = all-so (loop-more A (movedV (kind s)) A B (le-refl A) (few .moved)) (closed-path (eqb-false (loops s) 0 d))
-        pick false false d e = all-so (loop-more Turned B A B (turned-most Turned (kind s) (lit≤ tt)) (le-refl B)) (wrapped-path lent free (eqb-false (wrapping s) 0 e))
+        pick false false d e = all-so (loop-more mostAngle B A B (angle-most mostAngle (kind s) (lit≤ tt)) (le-refl B)) (wrapped-path lent free (eqb-false (wrapping s) 0 e))
 
 -- ---- the bytes
 

@@ -24,20 +24,31 @@ pub record EachReal (area u v coordinate : Float → Type 0) (r : Result) : Type
 abbrev pub Bounded : List ℕ → Type 0
 Bounded b = EachReal (Within (10 ^ 24)) (Within (10 ^ 24)) (Within (10 ^ 24)) (Within (10 ^ 24)) (decode b)
 
--- the same, nearer to what the limits of a face record give: areas at most 1,125,899,906,842,624, coordinates at most 4,294,967,296
+-- the same, nearer to what the limits of a face record give: areas at most 1,125,899,906,842,624, coordinates at most 4,294,967,296, heights at most 4,194,304
 abbrev pub mostArea : ℕ
 mostArea = 2 ^ 50
 
 abbrev pub mostCoordinate : ℕ
 mostCoordinate = 2 ^ 32
 
--- u, by the kind: on a plane as large as the record may give it. Of the other kinds the record gives it up to 64, and each shift by whole periods is longer than the distance that it takes up by at most one period and 2 ^ -40 (`LeavesHalf` and `LeavesTurn` of loops); docs/MAGNITUDES.md adds them up.
-abbrev pub mostU : ℕ → ℕ
-mostU k = cond (k =? plane) 1000000 1000
+-- A parameter that is an angle: u of all kinds but the plane, v of sphere and torus. The record gives it up to 64, and each shift by whole periods is longer than the distance that it takes up by at most one period and 2 ^ -40 (`LeavesHalf` and `LeavesTurn` of loops); docs/MAGNITUDES.md adds them up.
+abbrev pub mostAngle : ℕ
+mostAngle = 1000
 
--- v, by the kind: at most 4,194,304 on plane, cylinder and cone, and 1,000 on sphere and torus, where the record gives it up to 64
+-- u of a plane: as large as the record may give it
+abbrev pub mostPlaneU : ℕ
+mostPlaneU = 1000000
+
+-- v of plane, cylinder and cone
+abbrev pub mostHeight : ℕ
+mostHeight = 2 ^ 22
+
+-- by the kind
+abbrev pub mostU : ℕ → ℕ
+mostU k = cond (k =? plane) mostPlaneU mostAngle
+
 abbrev pub mostV : ℕ → ℕ
-mostV k = cond (leb k cone) (2 ^ 22) 1000
+mostV k = cond (leb k cone) mostHeight mostAngle
 
 -- of the face record s, and of the result's bytes
 abbrev pub Narrow : List ℕ → List ℕ → Type 0
