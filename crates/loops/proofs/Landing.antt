@@ -224,47 +224,46 @@ module _ {a b : ℕ} {z : ℤ} (t s : ℕ) (d : Difference a b z) where
 reached-real : (x : Float) → T (fits binary64 x) → Reached x → FiniteReal x
 reached-real x f v = record { fits = f; finite = within-finite 1000 x v }
 
-module _ (o : Choice) where
-  module _ (x y : Float) (f : T (fits binary64 x)) (g : T (fits binary64 y)) (v : Reached x) (w : Reached y) where
-    a : Counted x
-    a = real-counts x (reached-real x f v)
+module _ (o : Choice) (x y : Float) (f : T (fits binary64 x)) (g : T (fits binary64 y)) (v : Reached x) (w : Reached y) where
+  a : Counted x
+  a = real-counts x (reached-real x f v)
 
-    b : Counted y
-    b = real-counts y (reached-real y g w)
+  b : Counted y
+  b = real-counts y (reached-real y g w)
 
-    turn-shifts : Shifts TAU turnUnits turn-above turn-counts turn-sizes o x y a b
-    turn-shifts =
-        shifts TAU turnUnits turn-above turn-counts turn-sizes o x y a b
-        (record { x = counts-within 1000 scale x (a .high) (a .low) (a .counts) v; y = counts-within 1000 scale y (b .high) (b .low) (b .counts) w })
+  turn-shifts : Shifts TAU turnUnits turn-above turn-counts turn-sizes o x y a b
+  turn-shifts =
+      shifts TAU turnUnits turn-above turn-counts turn-sizes o x y a b
+      (record { x = counts-within 1000 scale x (a .high) (a .low) (a .counts) v; y = counts-within 1000 scale y (b .high) (b .low) (b .counts) w })
 
-    abbrev shift' : Float
-    shift' = TAU ⊗ o .whole ((x ⊖ y) ⊘ TAU)
+  abbrev taken : Float
+  taken = TAU ⊗ o .whole ((x ⊖ y) ⊘ TAU)
 
-    turned-shift : o .whole ((x ⊖ y) ⊘ TAU) ⊗ TAU ≡ shift'
-    turned-shift = turn-shifts .turned
+  turned-shift : o .whole ((x ⊖ y) ⊘ TAU) ⊗ TAU ≡ taken
+  turned-shift = turn-shifts .turned
 
-    shift-finite : T (finite shift')
-    shift-finite = turn-shifts .counts .sound
+  shift-finite : T (finite taken)
+  shift-finite = turn-shifts .counts .sound
 
-    left-is : Difference (a .high + b .low + turn-shifts .low) (a .low + b .high + turn-shifts .high) (leftOver x y shift')
-    left-is =
-        difference-sub (difference-sub (counts-units x (a .high) (a .low) (a .counts)) (counts-units y (b .high) (b .low) (b .counts)))
-        (counts-units shift' (turn-shifts .high) (turn-shifts .low) (turn-shifts .counts))
+  left-is : Difference (a .high + b .low + turn-shifts .low) (a .low + b .high + turn-shifts .high) (leftOver x y taken)
+  left-is =
+      difference-sub (difference-sub (counts-units x (a .high) (a .low) (a .counts)) (counts-units y (b .high) (b .low) (b .counts)))
+      (counts-units taken (turn-shifts .high) (turn-shifts .low) (turn-shifts .counts))
 
-    -- what is left, doubled: at most l turns above zero, and h below
-    left-off : Off (a .high + b .low + turn-shifts .low) (a .low + b .high + turn-shifts .high) (o .l * turnUnits + 2 * slackUnits) (o .h * turnUnits + 2 * slackUnits)
-    left-off =
-        let s = turn-shifts in
-        left-of (s .high) (s .low) (a .high) (a .low) (b .high) (b .low) (o .h * turnUnits + 2 * slackUnits) (o .l * turnUnits + 2 * slackUnits)
-        (widened _ _ (o .h * turnUnits) (o .l * turnUnits) (15 * E) (2 * slackUnits) fifteen (s .leaves))
+  -- what is left, doubled: at most l turns above zero, and h below
+  left-off : Off (a .high + b .low + turn-shifts .low) (a .low + b .high + turn-shifts .high) (o .l * turnUnits + 2 * slackUnits) (o .h * turnUnits + 2 * slackUnits)
+  left-off =
+      let s = turn-shifts in
+      left-of (s .high) (s .low) (a .high) (a .low) (b .high) (b .low) (o .h * turnUnits + 2 * slackUnits) (o .l * turnUnits + 2 * slackUnits)
+      (widened _ _ (o .h * turnUnits) (o .l * turnUnits) (15 * E) (2 * slackUnits) fifteen (s .leaves))
 
-    landed-is : Difference (turn-shifts .rest .high + b .low) (turn-shifts .rest .low + b .high) (units (x ⊖ shift') -ℤ units y)
-    landed-is =
-        let r = turn-shifts .rest in
-        difference-sub (counts-units (x ⊖ shift') (r .high) (r .low) (r .counts)) (counts-units y (b .high) (b .low) (b .counts))
+  landed-is : Difference (turn-shifts .rest .high + b .low) (turn-shifts .rest .low + b .high) (units (x ⊖ taken) -ℤ units y)
+  landed-is =
+      let r = turn-shifts .rest in
+      difference-sub (counts-units (x ⊖ taken) (r .high) (r .low) (r .counts)) (counts-units y (b .high) (b .low) (b .counts))
 
-    landed-off : Off (turn-shifts .rest .high + b .low) (turn-shifts .rest .low + b .high) (o .l * turnUnits + 2 * slackUnits) (o .h * turnUnits + 2 * slackUnits)
-    landed-off = widened _ _ (o .l * turnUnits) (o .h * turnUnits) (23 * E) (2 * slackUnits) all-errors (turn-shifts .lands)
+  landed-off : Off (turn-shifts .rest .high + b .low) (turn-shifts .rest .low + b .high) (o .l * turnUnits + 2 * slackUnits) (o .h * turnUnits + 2 * slackUnits)
+  landed-off = widened _ _ (o .l * turnUnits) (o .h * turnUnits) (23 * E) (2 * slackUnits) all-errors (turn-shifts .lands)
 
 turns-on : le TAU plusZero ≡ false
 unfolding le ofBits

@@ -100,7 +100,7 @@ across a b d g c m n e f =
     let j = ap (λ (z : ℕ). z * d) f in
     omega arith
 
--- a / b at most A / B, by a third fraction: c and d above 0
+-- A is a and B is b, both taken c / d times: they are in the same order
 le-across : (a b A B c d : ℕ) → 0 < d → a * c ≡ A * d → b * c ≡ B * d → a ≤ b → A ≤ B
 le-across a b A B c d D e f h = le-of-mul-le-mul-right {m = A} {n = B} {k = d} (le-trans (le-of-eq (sym e)) (le-trans (mul-le-mul-right c h) (le-of-eq f))) D
 
