@@ -4,6 +4,7 @@ pub mod Position
 pub mod Signed
 pub mod Monotone
 pub mod Zeros
+pub mod Infinities
 pub mod Magnitude
 pub mod Fractions
 pub mod Integers

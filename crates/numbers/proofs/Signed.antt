@@ -8,12 +8,13 @@ use native.Mathlib.Omega.{arith}
 use mathlib.Core.Bool.{Bool, true, false, not, _&&_, _||_, cond, true≢false}
 use lib.IntN.{pos}
 use lib.Dec.{T, ltb, eqb, ltb→lt, lt→ltb, eqb→eq, eqb-refl}
-use lib.Ieee.{Float, nan, inf, fin, Format, prec, low, up, down, round, units, odd, neg, le, lt, below, level}
+use lib.Ieee.{Float, nan, inf, fin, Format, prec, low, up, down, round, units, odd, neg, le, lt, eq, below, level}
 use lib.Ieee.Fits.{down-pos, round-is, and-i, and-l, and-r}
 use lib.Ieee.Order.{round-mono}
 use lib.Ieee.Scale.{round-same, finite}
 use lib.Ieee.Positive.{den}
 use Rattle.numbers.proofs.Reals.{round-neg}
+use Rattle.numbers.proofs.Equality.{or-right}
 
 -- ---- a finite value as a signed fraction
 -- a where the sign is clear, else 0; and the other way round
@@ -375,3 +376,12 @@ le-of-not-less (fin s m e) (fin t n d) p q h = cross→le (fin s m e) (fin t n d
     go false true a c b d h = let k = borrow.Author.Tests.ltb-false 0 (b * c + a * d) h in omega arith
     go true false a c b d h = omega arith
     go true true a c b d h = let k = borrow.Author.Tests.ltb-false (a * d) (b * c) h in omega arith
+
+-- what is less, or equal as a number, is at most that
+pub le-of-less : (x y : Float) → lt x y ≡ true → T (le x y)
+unfolding le
+le-of-less x y e = rw e tt
+
+pub le-of-equal : (x y : Float) → eq x y ≡ true → T (le x y)
+unfolding le
+le-of-equal x y e = rw (or-right (lt x y) (eq x y) e) tt
