@@ -1,15 +1,21 @@
--- 01, "Values to hold", and the cases that tell its sentences apart, computed.
+-- 01, "Values to hold", and the cases that tell the sentences of 01 and 02 apart, computed.
+use Prim.Native.Nat.{ℕ}
 use mathlib.Core.Path.{_≡_, refl}
+use mathlib.Core.Bool.{false}
+use lib.ListN.{length}
 use mathlib.Core.List.{List, [], _∷_}
-use lib.Ieee.{Float, add, sub, mul, div, neg, lt, le, eq, ofBits, ofInt}
+use lib.Ieee.{Float, nan, inf, add, sub, mul, div, neg, lt, le, eq, ofBits, ofInt}
+use Rattle.numbers.specs.Constants.{plusZero}
 use Rattle.numbers.specs.Order.{absOf}
 use Rattle.numbers.specs.Round.{roundAway}
 use Rattle.numbers.specs.Rounded.{_⊕_, count}
 use Rattle.loops.specs.Area.{areaOf, crossSum, crossAt}
 use Rattle.loops.specs.Span.{leastOf, greatestOf, middleOf}
+use Rattle.regions.specs.declared.boxes.Bounds.{Bounds}
 use Rattle.regions.specs.declared.rephase.Branch.{Branch}
 use Rattle.regions.specs.Table.{boxesOf}
 use Rattle.regions.specs.Outer.{billionth, outerOf, slackOf, encloses, every, passing, enclosesOther, enclosesOthers, enclosingOne, lastLargest}
+use Rattle.regions.specs.OnePass.{enclosable, oneIfUnenclosable, endsAmong, unenclosableAmong, outermostOf, enclosesAll, enclosesAllAt, onePass}
 use Rattle.regions.specs.Rephase.{rephased, moved, shiftOf}
 
 -- the square of side n at the corner (0, 0)
@@ -33,6 +39,66 @@ enclosing-square = refl
 short-square : outerOf (boxesOf (squareU (count 1) ∷ (count 0 ∷ (count 1 ⊕ billionth) ∷ []) ∷ []) (squareV (count 1) ∷ (count 0 ∷ count 0 ∷ []) ∷ [])) (count 0 ∷ count 1 ∷ []) ≡ 0
 unfolding outerOf boxesOf leastOf greatestOf slackOf encloses every passing enclosesOther enclosesOthers enclosingOne lastLargest absOf add sub mul neg lt le ofBits ofInt
 short-square = refl
+
+-- ---- 02, N6: lists with a box that no loop of a face has; the search promises its answer for them too
+abbrev unit : Bounds
+unit = record { ulo = count 0; uhi = count 1; vlo = count 0; vhi = count 1 }
+
+abbrev unending : Bounds
+unending = record { ulo = count 1; uhi = inf false; vlo = count 1; vhi = count 2 }
+
+abbrev undefined : Bounds
+undefined = record { ulo = nan; uhi = count 1; vlo = count 0; vhi = count 1 }
+
+-- the boxes that enclose all others, every one held against every other
+abbrev enclosers : List Bounds → List ℕ
+enclosers boxes = passing (enclosesOthers (slackOf boxes) boxes) (length boxes)
+
+-- +inf less an infinite slack is a NaN, so that `unending` does not enclose even itself
+unending-itself : enclosable (slackOf (unending ∷ [])) unending ≡ false
+unfolding slackOf encloses add sub mul neg lt le ofBits ofInt
+unending-itself = refl
+
+-- such a box may be the one that encloses all others
+unending-encloses : enclosers (unit ∷ unending ∷ unit ∷ []) ≡ 1 ∷ []
+unfolding slackOf encloses every passing enclosesOther enclosesOthers add sub mul neg lt le ofBits ofInt
+unending-encloses = refl
+
+-- of two such boxes neither encloses the other
+two-unending : enclosers (unending ∷ unending ∷ []) ≡ []
+unfolding slackOf encloses every passing enclosesOther enclosesOthers add sub mul neg lt le ofBits ofInt
+two-unending = refl
+
+-- a box with a NaN among its ends encloses none, and none encloses it
+undefined-among : enclosers (unit ∷ undefined ∷ []) ≡ []
+unfolding slackOf encloses every passing enclosesOther enclosesOthers add sub mul neg lt le ofBits ofInt
+undefined-among = refl
+
+-- what each held against the outermost ends finds of these lists, with 7 for none
+found-unending : onePass (unit ∷ unending ∷ unit ∷ []) 7 ≡ 1
+unfolding onePass enclosesAllAt enclosesAll outermostOf endsAmong unenclosableAmong oneIfUnenclosable passing slackOf encloses add sub mul neg lt le ofBits ofInt
+found-unending = refl
+
+found-no-unending : onePass (unending ∷ unending ∷ []) 7 ≡ 7
+unfolding onePass enclosesAllAt enclosesAll outermostOf endsAmong unenclosableAmong oneIfUnenclosable passing slackOf encloses add sub mul neg lt le ofBits ofInt
+found-no-unending = refl
+
+found-no-undefined : onePass (unit ∷ undefined ∷ []) 7 ≡ 7
+unfolding onePass enclosesAllAt enclosesAll outermostOf endsAmong unenclosableAmong oneIfUnenclosable passing slackOf encloses add sub mul neg lt le ofBits ofInt
+found-no-undefined = refl
+
+-- a box alone is found, although the test would refuse this one
+found-alone : onePass (undefined ∷ []) 7 ≡ 0
+unfolding onePass enclosesAllAt enclosesAll outermostOf endsAmong unenclosableAmong oneIfUnenclosable passing slackOf encloses add sub mul neg lt le ofBits ofInt
+found-alone = refl
+
+tested-alone : enclosesAllAt plusZero (outermostOf plusZero (undefined ∷ [])) (undefined ∷ []) 0 ≡ false
+unfolding onePass enclosesAllAt enclosesAll outermostOf endsAmong unenclosableAmong oneIfUnenclosable passing slackOf encloses add sub mul neg lt le ofBits ofInt
+tested-alone = refl
+
+found-nothing : onePass [] 7 ≡ 7
+unfolding onePass enclosesAllAt enclosesAll outermostOf endsAmong unenclosableAmong oneIfUnenclosable passing slackOf encloses add sub mul neg lt le ofBits ofInt
+found-nothing = refl
 
 -- ---- a hole, onto a branch with its middle at 0 and period 4 in u
 abbrev branch : Branch

@@ -1,7 +1,7 @@
 -- The loops of the outer search, turn by turn.
 use Prim.Native.Nat.{ℕ, zero, suc, _+_, _≤_, _<_}
 use mathlib.Core.Path.{_≡_, refl, sym, ap, _∙_}
-use mathlib.Core.Bool.{Bool, true, false, cond, _&&_}
+use mathlib.Core.Bool.{Bool, true, false, cond}
 use mathlib.Core.List.{List, [], _∷_, _++_, append-nil, append-assoc}
 use native.Mathlib.Omega.{arith}
 use native.Mathlib.Numerals.{add-one}
@@ -15,7 +15,9 @@ use Rattle.numbers.specs.Order.{absOf, maxOf}
 use Rattle.numbers.specs.Rounded.{_⊗_}
 use Rattle.lists.proofs.Folds.{Folding, folding, folding-turn, folding-end}
 use Rattle.regions.specs.declared.boxes.Bounds.{Bounds}
-use Rattle.regions.specs.Outer.{billionth, sideOf, slackOf, nowhere, boxAt, every, passing, theOne, lastLargest}
+use Rattle.regions.specs.declared.outer.Outermost.{Outermost}
+use Rattle.regions.specs.Outer.{billionth, sideOf, slackOf, nowhere, boxAt, passing, theOne, lastLargest}
+use Rattle.regions.specs.OnePass.{emptyBox, hullOf, enclosable, oneIfUnenclosable, endsAmong, unenclosableAmong, outermostOf, enclosesAll, enclosesAllAt}
 
 -- ---- the largest side
 module _ (boxes : List Bounds) where
@@ -38,37 +40,62 @@ module _ (boxes : List Bounds) where
   unfolding slackOf
   sides-end n largest i k h = let a = k .all in ap (λ (x : Float). x ⊗ billionth) (folding-end larger plusZero boxes largest i (k .fold) (omega arith))
 
--- ---- a test at every number below m, which the code calls n
-module _ (test : ℕ → Bool) (m : ℕ) where
-  pub record Passed (n i : ℕ) : Type 0 where
-    pub all : n ≡ m
+-- ---- the outermost ends, and how many boxes are not enclosable
+module _ (slack : Float) (boxes : List Bounds) where
+  pub record Taken (n : ℕ) (ends : Bounds) (count i : ℕ) : Type 0 where
+    pub all : n ≡ length boxes
     pub far : i ≤ n
-    pub is : every test i ≡ true
+    pub few : count ≤ i
+    pub outermost : ends ≡ endsAmong slack boxes i
+    pub left : count ≡ unenclosableAmong slack boxes i
 
-  pub passed : (n : ℕ) → n ≡ m → Passed n 0
-  passed n e = record { all = e; far = omega arith; is = unfold every in refl }
+  pub taken : (n : ℕ) (ends : Bounds) → n ≡ length boxes → ends ≡ emptyBox → Taken n ends 0 0
+  taken n ends e p = record {
+    all = e;
+    far = omega arith;
+    few = omega arith;
+    outermost = unfold endsAmong in p;
+    left = unfold unenclosableAmong in refl;
+  }
 
-  pub passed-turn : (n i : ℕ) → Passed n i → i < n → test i ≡ true → Passed n (i + 1)
-  passed-turn n i k h t = record { all = k .all; far = omega arith; is = unfold every in rw (add-one, k .is, t) }
+  module _
+      (n : ℕ) (ends : Bounds) (count i : ℕ) (k : Taken n ends count i) (h : i < n)
+      (b : Bounds) (p : b ≡ boxAt boxes i) (t : Bool) (q : t ≡ enclosable slack b) where
+    test : (w : Bool) → t ≡ w → enclosable slack (boxAt boxes i) ≡ w
+    test w e = rw (← p, ← q, e)
 
-  pub passed-end : (n i : ℕ) → Passed n i → n ≤ i → true ≡ every test m
-  passed-end n i k h = let e : i ≡ m = omega (arith, k .far, k .all) in sym (rw e at (k .is))
+    pub taken-hull : t ≡ true → (wide : Bounds) → wide ≡ hullOf ends b → Taken n wide count (i + 1)
+    taken-hull e wide w = record {
+      all = k .all;
+      far = omega arith;
+      few = omega (arith, k .few);
+      outermost = unfold endsAmong in rw (add-one, test true e, ← p, ← (k .outermost)) w;
+      left = unfold unenclosableAmong oneIfUnenclosable in rw (add-one, test true e, ← (k .left)) (omega arith);
+    }
 
-and-false : (a b : Bool) → b ≡ false → false ≡ a && b
-and-false true b h = sym h
-and-false false b h = refl
+    counts-one : t ≡ false → oneIfUnenclosable slack (boxAt boxes i) ≡ 1
+    unfolding oneIfUnenclosable
+    counts-one e = rw (test false e)
 
-fails : (test : ℕ → Bool) (n i : ℕ) → i < n → test i ≡ false → false ≡ every test n
-unfolding every
-fails test zero i h t = absurd (omega arith)
-fails test (suc n) i h t = go (λ k. fails test n i k t) (decLe (suc i) n)
-  where
-    go : (i < n → false ≡ every test n) → Dec (i < n) → false ≡ every test n && test n
-    go before (yes k) = rw (← (before k))
-    go before (no f) = let e : i ≡ n = omega arith in and-false (every test n) (test n) (rw e at t)
+    pub taken-not : t ≡ false → Taken n ends (count + 1) (i + 1)
+    taken-not e = record {
+      all = k .all;
+      far = omega arith;
+      few = omega (arith, k .few);
+      outermost = unfold endsAmong in rw (add-one, test false e) (k .outermost);
+      left = unfold unenclosableAmong in rw (add-one i, counts-one e, ← (k .left));
+    }
 
-pub failed : (test : ℕ → Bool) (m n i : ℕ) → Passed test m n i → i < n → test i ≡ false → false ≡ every test m
-failed test m n i k h t = let e = k .all in fails test m i (omega arith) t
+  pub taken-all : (n : ℕ) (ends : Bounds) (count i : ℕ) → Taken n ends count i → n ≤ i
+      → record { ends = ends; unenclosable = count } ≡ outermostOf slack boxes
+  unfolding outermostOf
+  taken-all n ends count i k h = let e : i ≡ length boxes = omega (arith, k .far, k .all) in rw (k .outermost, k .left, e)
+
+-- ---- a box held against them
+pub held-at : (slack : Float) (outermost : Outermost) (boxes : List Bounds) (i : ℕ) (b : Bounds) (t w : Bool)
+    → b ≡ boxAt boxes i → t ≡ enclosesAll slack outermost b → t ≡ w → enclosesAllAt slack outermost boxes i ≡ w
+unfolding enclosesAllAt
+held-at slack outermost boxes i b t w p q e = rw (← p, ← q, e)
 
 -- ---- the one number below m at which a test passes; found is n until one is
 further : (test : ℕ → Bool) (n i : ℕ) → i ≤ n → (rest : List ℕ) × (passing test n ≡ passing test i ++ rest)

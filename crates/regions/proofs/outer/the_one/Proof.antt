@@ -1,19 +1,18 @@
 use Prim.Native.Nat.{_-_}
-use mathlib.Core.Path.{sym, _∙_}
 use native.Mathlib.Omega.{arith}
 use borrow.Author.Needs.{needs}
 use lib.ListN.{length}
 use Rattle.regions.specs.Table.{boxesFrom}
-use Rattle.regions.specs.Outer.{enclosesOthers, enclosingOne}
+use Rattle.regions.specs.OnePass.{enclosesAllAt}
 use Rattle.regions.proofs.outer.Laws as laws
 use Rattle.regions.proofs.outer.the_one.Statement.{statement}
 use Rattle.regions.proofs.outer.the_one.Tie as tie
 
 abbrev Inv-loop : tie.InvT-loop
-Inv-loop ulo uhi vlo vhi slack none n found₀ i₀ found i = laws.Seeking (enclosesOthers slack (boxesFrom ulo uhi vlo vhi)) (length (boxesFrom ulo uhi vlo vhi)) n found i
+Inv-loop ulo uhi vlo vhi slack outermost none n found₀ i₀ found i = laws.Seeking (enclosesAllAt slack outermost (boxesFrom ulo uhi vlo vhi)) (length (boxesFrom ulo uhi vlo vhi)) n found i
 
 abbrev μ-loop : tie.MeasureT-loop
-μ-loop ulo uhi vlo vhi slack none n found₀ i₀ found i = n - i
+μ-loop ulo uhi vlo vhi slack outermost none n found₀ i₀ found i = n - i
 
 box-count-requires : tie.Need-box-count-requires Inv-loop μ-loop
 box-count-requires c κs = search needs
@@ -24,31 +23,31 @@ loop-holds c = laws.seeking _ _ _ (c .box-count .ensures)
 add-i : tie.Need-add-i Inv-loop μ-loop
 add-i c = omega arith
 
-encloses-others-requires : tie.Need-encloses-others-requires Inv-loop μ-loop
-encloses-others-requires c κs = search needs
+box-at-requires : tie.Need-box-at-requires Inv-loop μ-loop
+box-at-requires c κs = search needs
+
+encloses-all-requires : tie.Need-encloses-all-requires Inv-loop μ-loop
+encloses-all-requires c κs = search needs
 
 returns : tie.Need-returns Inv-loop μ-loop
-unfolding enclosingOne
-returns c = laws.seeking-two _ _ _ _ _ _ (c .before .before .before .before .loop .inv) (c .before .before .before .loop-test .taken) (sym (c .before .before .encloses-others .ensures) ∙ c .before .if1 .taken) (c .if2 .taken)
+returns c = search (laws.seeking-two, laws.held-at, needs)
 
 loop-less : tie.Need-loop-less Inv-loop μ-loop
 loop-less c = omega arith
 
 loop-again : tie.Need-loop-again Inv-loop μ-loop
-loop-again c = laws.seeking-one _ _ _ _ _ (c .before .before .before .before .loop .inv) (c .before .before .before .loop-test .taken) (sym (c .before .before .encloses-others .ensures) ∙ c .before .if1 .taken) (c .if2 .left)
+loop-again c = search (laws.seeking-one, laws.held-at, needs)
 
 loop-less-2 : tie.Need-loop-less-2 Inv-loop μ-loop
 loop-less-2 c = omega arith
 
 loop-again-2 : tie.Need-loop-again-2 Inv-loop μ-loop
-loop-again-2 c = laws.seeking-on _ _ _ _ _ (c .before .before .before .loop .inv) (c .before .before .loop-test .taken) (sym (c .before .encloses-others .ensures) ∙ c .if1 .left)
+loop-again-2 c = search (laws.seeking-on, laws.held-at, needs)
 
 returns-2 : tie.Need-returns-2 Inv-loop μ-loop
-unfolding enclosingOne
 returns-2 c = laws.found-one _ _ _ _ _ _ (c .before .before .loop .inv) (c .before .loop-test .left) (c .if3 .taken)
 
 returns-3 : tie.Need-returns-3 Inv-loop μ-loop
-unfolding enclosingOne
 returns-3 c = laws.found-none _ _ _ _ _ _ (c .before .before .loop .inv) (c .before .loop-test .left) (c .if3 .left)
 
 pub the-one-spec : {M : Type 1} → statement M
@@ -60,7 +59,8 @@ the-one-spec =
     box-count-requires
     loop-holds
     add-i
-    encloses-others-requires
+    box-at-requires
+    encloses-all-requires
     returns
     loop-less
     loop-again

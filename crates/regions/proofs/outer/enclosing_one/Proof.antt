@@ -1,0 +1,33 @@
+use borrow.Author.Needs.{needs}
+use Rattle.regions.proofs.outer.OnePass.{one-answer, other-answer, slices-found}
+use Rattle.regions.proofs.outer.enclosing_one.Statement.{statement}
+use Rattle.regions.proofs.outer.enclosing_one.Tie as tie
+
+box-count-requires : tie.Need-box-count-requires
+box-count-requires c κs = search needs
+
+returns : tie.Need-returns
+returns c = search (slices-found, one-answer, needs)
+
+slack-of-requires : tie.Need-slack-of-requires
+slack-of-requires c κs = search needs
+
+outermost-ends-requires : tie.Need-outermost-ends-requires
+outermost-ends-requires c κs = search needs
+
+the-one-requires : tie.Need-the-one-requires
+the-one-requires c κs = search needs
+
+returns-2 : tie.Need-returns-2
+returns-2 c = search (slices-found, other-answer, needs)
+
+pub enclosing-one-spec : {M : Type 1} → statement M
+enclosing-one-spec =
+    tie.close
+    (tie.spec
+    box-count-requires
+    returns
+    slack-of-requires
+    outermost-ends-requires
+    the-one-requires
+    returns-2)
