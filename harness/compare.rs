@@ -4,6 +4,7 @@
 //!     compare [--seed N] [--times N] [--only LAYER]
 
 mod bands;
+mod boxes;
 mod branches;
 mod calls;
 #[cfg(closer)]
@@ -45,6 +46,7 @@ const LAYERS: &[(&str, fn(&Run))] = &[
     ("numbers", numbers::compare),
     ("surfaces", surfaces::compare),
     ("loops", loops::compare),
+    ("boxes", boxes::compare),
     ("regions", regions::compare),
     ("whole", whole::compare),
     ("bands", bands::compare),

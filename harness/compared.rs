@@ -169,6 +169,18 @@ unsafe extern "C" {
         vhi: *mut f64,
         vhi_len: usize,
     ) -> usize;
+    fn compared_outer_loop(
+        ulo: *const f64,
+        ulo_len: usize,
+        uhi: *const f64,
+        uhi_len: usize,
+        vlo: *const f64,
+        vlo_len: usize,
+        vhi: *const f64,
+        vhi_len: usize,
+        areas: *const f64,
+        areas_len: usize,
+    ) -> usize;
     fn compared_rephase_holes(
         u: *mut f64,
         u_len: usize,
@@ -509,6 +521,24 @@ pub fn closed_region(table: &Table) -> usize {
             vlo.len(),
             vhi.as_mut_ptr(),
             vhi.len(),
+        )
+    }
+}
+
+/// The number of the outer loop, by the four lists of the boxes' ends and the areas.
+pub fn outer_loop([ulo, uhi, vlo, vhi]: &[Vec<f64>; 4], areas: &[f64]) -> usize {
+    unsafe {
+        compared_outer_loop(
+            ulo.as_ptr(),
+            ulo.len(),
+            uhi.as_ptr(),
+            uhi.len(),
+            vlo.as_ptr(),
+            vlo.len(),
+            vhi.as_ptr(),
+            vhi.len(),
+            areas.as_ptr(),
+            areas.len(),
         )
     }
 }

@@ -2,8 +2,9 @@
 ghost use mathlib.Core.Path.{_≡_};
 ghost use mathlib.Core.Bool.{true, false};
 ghost use Rattle.regions.specs.Closed.{closedRegion};
+ghost use Rattle.regions.specs.Outer.{outerOf};
 ghost use Rattle.regions.specs.Rephase.{arrays, rephaseHoles};
-ghost use Rattle.regions.specs.Table.{endsInto};
+ghost use Rattle.regions.specs.Table.{boxesFrom, endsInto};
 
 #[no_mangle]
 pub extern "C" fn compared_closed_region(
@@ -24,6 +25,19 @@ pub extern "C" fn compared_closed_region(
     ensures { λ _. ⌜ now (vhi .exit) ≡ endsInto true (now (starts .entry)) (now (counts .entry)) (now (v .entry)) (now (vhi .entry)) ⌝ }
 {
     regions::closed::closed_region(u, v, starts, counts, areas, ulo, uhi, vlo, vhi)
+}
+
+#[no_mangle]
+pub extern "C" fn compared_outer_loop(
+    ulo: &[f64],
+    uhi: &[f64],
+    vlo: &[f64],
+    vhi: &[f64],
+    areas: &[f64],
+) -> usize
+    ensures { λ r. ⌜ r ≡ outerOf (boxesFrom (now (ulo .entry)) (now (uhi .entry)) (now (vlo .entry)) (now (vhi .entry))) (now (areas .entry)) ⌝ }
+{
+    regions::outer::outer_loop(ulo, uhi, vlo, vhi, areas)
 }
 
 #[no_mangle]
