@@ -1,6 +1,7 @@
 //! Times the whole call on both sides: the Rattle crate `closer`, and the cut Rust behind the reading
 //! and writing of records in `judge.rs`. Both are given the same faces, class by class and face by
-//! face in turn, and the least of many times counts.
+//! face in turn, and the least of many times counts. Then it times the search for the outer loop alone,
+//! as loops grow many.
 //!
 //!     bench [--rounds N]
 
@@ -10,7 +11,9 @@
 mod branches;
 mod calls;
 mod closer;
+mod compared;
 mod faces;
+mod growth;
 mod items;
 mod judge;
 mod patterns;
@@ -70,6 +73,7 @@ fn main() {
             .map(|time| time.as_secs_f64() * 1e6 / (f64::from(CALLS) * records.len() as f64));
         println!("bench: {name:32} {rattle:9.2} {rust:9.2} {:6.2}", rattle / rust);
     }
+    growth::print(rounds);
 }
 
 /// Records of faces that are closed, to which both sides answer the same.
