@@ -1,7 +1,7 @@
 //! Times the whole call on both sides: the Rattle crate `closer`, and the cut Rust behind the reading
 //! and writing of records in `judge.rs`. Both are given the same faces, class by class and face by
-//! face in turn, and the least of many times counts. Then it times the search for the outer loop alone,
-//! as loops grow many.
+//! face in turn, and the least of many times counts. Then it times the search for the outer loop
+//! alone, as loops grow many.
 //!
 //!     bench [--rounds N]
 

@@ -64,14 +64,18 @@ pub fn compare(run: &Run) {
     }
 }
 
-/// Document 01, with item 3's `greatest` of a NaN side: "the one box that encloses all others within 10^-9 of the largest box side; with no
-/// such box or several, the largest absolute area, last of equals".
+/// Document 01: "the one box that encloses all others within 10^-9 of the largest box side; with no
+/// such box or several, the largest absolute area, last of equals". Of a side that is a NaN item 3
+/// says which counts.
 fn all_pairs(boxes: &[Ends], areas: &[f64]) -> usize {
     match enclosing(boxes, slack(boxes)).as_slice() {
         [only] => *only,
-        _ => (1..areas.len()).fold(0, |best, i| {
-            if areas[i].abs() < areas[best].abs() { best } else { i }
-        }),
+        _ => {
+            let larger = |best: usize, i: usize| {
+                if areas[i].abs() < areas[best].abs() { best } else { i }
+            };
+            (1..areas.len()).fold(0, larger)
+        }
     }
 }
 
@@ -170,8 +174,8 @@ fn boxes(random: &mut Random) -> Vec<Ends> {
     out
 }
 
-/// Boxes whose ends are often equal; boxes within the square from -4 to 4; ends of any size; ends at
-/// the limits of a float; any bits; and small boxes with one end at a limit.
+/// Boxes whose ends are often equal; boxes within the square from -4 to 4; ends of any size; ends
+/// at the limits of a float; any bits; and small boxes with one end at a limit.
 fn one_box(random: &mut Random, way: u64) -> Ends {
     let few = [-2.0, -1.0, -0.0, 0.0, 1.0, 2.0];
     match way {

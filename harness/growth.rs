@@ -1,7 +1,7 @@
-//! How the time of `closed_region`, which finds the outer loop, grows with the number of loops, up to
-//! far more than a record holds. Timed on both sides are the boxes of loops of four points, the lists
-//! that they are put in, and the search with its areas; on the Rust's also that the outer loop is taken
-//! out of the loops.
+//! How the time of `closed_region`, which finds the outer loop, grows with the number of loops, up
+//! to far more than a record holds. Timed on both sides are the boxes of loops of four points, the
+//! lists that they are put in, and the search with its areas; on the Rust's also that the outer
+//! loop is taken out of the loops.
 
 use crate::compared::{self, Table};
 use crate::original::{UvLoop, Vec2, closed_region};
@@ -11,17 +11,17 @@ use std::time::{Duration, Instant};
 const LOOPS: [usize; 5] = [16, 64, 300, 1024, 4096];
 
 /// Where the time of a loop at the greatest number of loops is more than so many times that at the
-/// least, the run fails. Of loops each within the next it is eighty times and more where every box is
-/// held against every other.
+/// least, the run fails. Of loops each within the next it is eighty times and more where every box
+/// is held against every other.
 const MOST_GROWTH: f64 = 4.0;
 
-/// Holding a box against every other ends at the first that it does not enclose: among holes side by
-/// side at once, and where each loop lies within the next only after all that lie within it.
+/// Holding a box against every other ends at the first that it does not enclose: among holes side
+/// by side at once, and where each loop lies within the next only after all that lie within it.
 const FACES: &[(&str, fn(usize) -> Vec<UvLoop>)] =
     &[("holes side by side", side_by_side), ("each loop within the next", nested)];
 
 pub fn print(rounds: u32) {
-    println!("bench: closed_region by the number of loops, nanoseconds a loop: Rattle, Rust, Rattle / Rust");
+    println!("bench: closed_region by loops, nanoseconds a loop: Rattle, Rust, Rattle / Rust");
     for (name, face) in FACES {
         println!("bench: {name}");
         let times = LOOPS.map(|n| {
@@ -77,8 +77,8 @@ fn nested(n: usize) -> Vec<UvLoop> {
     (0..n).map(|i| square(i, -((i + 1) as f64), (i + 1) as f64)).collect()
 }
 
-/// The square with corners (lo, lo) and (hi, hi), and its number as `travel`, which bands alone read.
-/// The larger it is the less is its area, so that the outer loop is not found by that.
+/// The square with corners (lo, lo) and (hi, hi), and its number as `travel`, which bands alone
+/// read. The larger it is the less is its area, so that the outer loop is not found by that.
 fn square(number: usize, lo: f64, hi: f64) -> UvLoop {
     let uv = [(lo, lo), (hi, lo), (hi, hi), (lo, hi)].map(|(u, v)| Vec2::new(u, v)).to_vec();
     UvLoop { uv, xyz: Vec::new(), wrap: 0, travel: number as i32, area: 1.0 / (hi - lo) }
