@@ -138,8 +138,8 @@ module _ (slack : Float) where
 
   module _ (nonneg : T (le Zero slack)) where
     -- ---- the outermost ends of no boxes
-    pub none-movable : Movable emptyBox
-    none-movable = record { ulo = rw top tt; uhi = rw bottom tt; vlo = rw top tt; vhi = rw bottom tt }
+    pub empty-movable : Movable emptyBox
+    empty-movable = record { ulo = rw top tt; uhi = rw bottom tt; vlo = rw top tt; vhi = rw bottom tt }
       where
         top : inf false ⊕ slack ≡ inf false
         top = top-plus slack nonneg
@@ -148,8 +148,8 @@ module _ (slack : Float) where
         bottom = bottom-minus slack nonneg
 
     -- what encloses some box encloses them
-    pub none-enclosed : (b o : Bounds) → Encloses b o → Encloses b emptyBox
-    none-enclosed b o e = record {
+    pub empty-enclosed : (b o : Bounds) → Encloses b o → Encloses b emptyBox
+    empty-enclosed b o e = record {
       ulo = rw (top-plus slack nonneg) (le-top (b .ulo) (le-numbers (b .ulo) (o .ulo ⊕ slack) (e .ulo) .0));
       uhi = rw (bottom-minus slack nonneg) (le-bottom (b .uhi) (le-numbers (o .uhi ⊖ slack) (b .uhi) (e .uhi) .1));
       vlo = rw (top-plus slack nonneg) (le-top (b .vlo) (le-numbers (b .vlo) (o .vlo ⊕ slack) (e .vlo) .0));

@@ -18,7 +18,7 @@ use Rattle.regions.specs.Outer.{slackOf, encloses, boxAt, every, passing
 use Rattle.regions.specs.OnePass.{emptyBox, hullOf, enclosable, oneIfUnenclosable, endsAmong, unenclosableAmong, outermostOf, enclosesAll, enclosesAllAt, onePass}
 use Rattle.regions.specs.Table.{boxesFrom}
 use Rattle.regions.proofs.boxes.Laws.{box-within, box-past}
-use Rattle.regions.proofs.outer.Enclosing.{Fits, Encloses, Movable, tests, tested, movable, hull-movable, hull-enclosed, hull-each, none-movable, none-enclosed, enclosed-enclosable, slack-nonneg}
+use Rattle.regions.proofs.outer.Enclosing.{Fits, Encloses, Movable, tests, tested, movable, hull-movable, hull-enclosed, hull-each, empty-movable, empty-enclosed, enclosed-enclosable, slack-nonneg}
 
 -- ---- tests
 same-test : (a b : Bool) → (T a → T b) → (T b → T a) → a ≡ b
@@ -61,17 +61,17 @@ module _ (slack : Float) (boxes : List Bounds) where
   abbrev among : ℕ → ℕ
   among n = unenclosableAmong slack boxes n
 
-  enclosable-none : (j : ℕ) → T (enclosable slack (box j)) → one j ≡ 0
+  enclosable-counted : (j : ℕ) → T (enclosable slack (box j)) → one j ≡ 0
   unfolding oneIfUnenclosable
-  enclosable-none j t = go (enclosable slack (box j)) t
+  enclosable-counted j t = go (enclosable slack (box j)) t
     where
       go : (w : Bool) → T w → _≡_ {A = ℕ} (cond w 0 1) 0
       go true t = refl
       go false t = absurd t
 
-  none-enclosable : (j : ℕ) → one j ≡ 0 → T (enclosable slack (box j))
+  counted-enclosable : (j : ℕ) → one j ≡ 0 → T (enclosable slack (box j))
   unfolding oneIfUnenclosable
-  none-enclosable j e = go (enclosable slack (box j)) e
+  counted-enclosable j e = go (enclosable slack (box j)) e
     where
       go : (w : Bool) → _≡_ {A = ℕ} (cond w 0 1) 0 → T w
       go true e = tt
@@ -109,7 +109,7 @@ module _ (slack : Float) (boxes : List Bounds) where
       (λ h. go before (decLe (suc i) n) h, λ h. none before h)
     where
       last : (i ≡ n → ⊥) → one n ≡ 0
-      last d = enclosable-none n (f n (omega arith) d)
+      last d = enclosable-counted n (f n (omega arith) d)
 
       go : Only i n → Dec (i < n) → i < suc n → among n + one n ≡ one i
       go before (yes k) h = let z = last (λ e. omega arith) in let b = before .0 k in omega arith
@@ -125,7 +125,7 @@ module _ (slack : Float) (boxes : List Bounds) where
 
     ends-movable : (n : ℕ) → Movable slack (ends n)
     unfolding endsAmong
-    ends-movable zero = none-movable slack nonneg
+    ends-movable zero = empty-movable slack nonneg
     ends-movable (suc n) = go (ends-movable n) (enclosable slack (box n)) (box-movable n)
       where
         go : Movable slack (ends n) → (w : Bool) → (T w → Movable slack (box n)) → Movable slack (cond w (hullOf (ends n) (box n)) (ends n))
@@ -182,7 +182,7 @@ module _ (slack : Float) (boxes : List Bounds) where
               let count = eqb→eq (among n) (one i) (and-r outer alone t) in
               let both = two-count n i j h k (eqb-false i j e) in
               let all = tests slack (box i) (ends n) (and-l outer alone t) in
-              tested slack (box i) (box j) (ends-each (box i) n all j k (none-enclosable j (omega arith)))
+              tested slack (box i) (box j) (ends-each (box i) n all j k (counted-enclosable j (omega arith)))
 
       other : T (enclosesOthers slack boxes i) → (j : ℕ) → j < n → (i ≡ j → ⊥) → T (encloses slack (box i) (box j))
       unfolding enclosesOthers enclosesOther
@@ -200,7 +200,7 @@ module _ (slack : Float) (boxes : List Bounds) where
           go j k o false e = other t j k (eqb-false i j e)
 
           encloses-ends : (j : ℕ) → j < n → (i ≡ j → ⊥) → Encloses slack (box i) emptyBox
-          encloses-ends j k d = none-enclosed slack nonneg (box i) (box j) (tests slack (box i) (box j) (other t j k d))
+          encloses-ends j k d = empty-enclosed slack nonneg (box i) (box j) (tests slack (box i) (box j) (other t j k d))
 
           another : (k : ℕ) → k ≡ i → Encloses slack (box i) emptyBox
           another zero e = encloses-ends 1 (omega arith) (λ q. omega arith)
