@@ -1,6 +1,6 @@
 pub mod Table
 pub mod Outer
-pub mod OnePass
+pub mod ByOutermost
 pub mod Closed
 pub mod Rephase
 pub mod Values

@@ -5,7 +5,6 @@ use mathlib.Core.Bool.{false}
 use lib.ListN.{length}
 use mathlib.Core.List.{List, [], _∷_}
 use lib.Ieee.{Float, nan, inf, add, sub, mul, div, neg, lt, le, eq, ofBits, ofInt}
-use Rattle.numbers.specs.Constants.{plusZero}
 use Rattle.numbers.specs.Order.{absOf}
 use Rattle.numbers.specs.Round.{roundAway}
 use Rattle.numbers.specs.Rounded.{_⊕_, count}
@@ -15,7 +14,7 @@ use Rattle.regions.specs.declared.boxes.Bounds.{Bounds}
 use Rattle.regions.specs.declared.rephase.Branch.{Branch}
 use Rattle.regions.specs.Table.{boxesOf}
 use Rattle.regions.specs.Outer.{billionth, outerOf, slackOf, encloses, every, passing, enclosesOther, enclosesOthers, enclosingOne, lastLargest}
-use Rattle.regions.specs.OnePass.{enclosable, oneIfUnenclosable, endsAmong, unenclosableAmong, outermostOf, enclosesAll, enclosesAllAt, onePass}
+use Rattle.regions.specs.ByOutermost.{enclosable, oneIfUnenclosable, endsAmong, unenclosableAmong, outermostOf, enclosesOutermost, enclosesOutermostAt, byOutermost}
 use Rattle.regions.specs.Rephase.{rephased, moved, shiftOf}
 
 -- the square of side n at the corner (0, 0)
@@ -40,9 +39,12 @@ short-square : outerOf (boxesOf (squareU (count 1) ∷ (count 0 ∷ (count 1 ⊕
 unfolding outerOf boxesOf leastOf greatestOf slackOf encloses every passing enclosesOther enclosesOthers enclosingOne lastLargest absOf add sub mul neg lt le ofBits ofInt
 short-square = refl
 
--- ---- 02, N6: lists with a box that no loop of a face has; the search promises its answer for them too
+-- ---- 02, N6: boxes with ends that no loop of a face has, too; the search promises its answer for them
 abbrev unit : Bounds
 unit = record { ulo = count 0; uhi = count 1; vlo = count 0; vhi = count 1 }
+
+abbrev wide : Bounds
+wide = record { ulo = count 0; uhi = count 2; vlo = count 0; vhi = count 1 }
 
 abbrev unending : Bounds
 unending = record { ulo = count 1; uhi = inf false; vlo = count 1; vhi = count 2 }
@@ -74,30 +76,41 @@ undefined-among : enclosers (unit ∷ undefined ∷ []) ≡ []
 unfolding slackOf encloses every passing enclosesOther enclosesOthers add sub mul neg lt le ofBits ofInt
 undefined-among = refl
 
--- what each held against the outermost ends finds of these lists, with 7 for none
-found-unending : onePass (unit ∷ unending ∷ unit ∷ []) 7 ≡ 1
-unfolding onePass enclosesAllAt enclosesAll outermostOf endsAmong unenclosableAmong oneIfUnenclosable passing slackOf encloses add sub mul neg lt le ofBits ofInt
+-- what the search by the outermost ends finds of these lists, and of two boxes of which one or both enclose the other; 7 where it finds none
+found-wide : byOutermost (unit ∷ wide ∷ []) 7 ≡ 1
+unfolding byOutermost enclosesOutermostAt enclosesOutermost outermostOf endsAmong unenclosableAmong oneIfUnenclosable passing slackOf encloses add sub mul neg lt le ofBits ofInt
+found-wide = refl
+
+found-no-several : byOutermost (unit ∷ unit ∷ []) 7 ≡ 7
+unfolding byOutermost enclosesOutermostAt enclosesOutermost outermostOf endsAmong unenclosableAmong oneIfUnenclosable passing slackOf encloses add sub mul neg lt le ofBits ofInt
+found-no-several = refl
+
+found-unending : byOutermost (unit ∷ unending ∷ unit ∷ []) 7 ≡ 1
+unfolding byOutermost enclosesOutermostAt enclosesOutermost outermostOf endsAmong unenclosableAmong oneIfUnenclosable passing slackOf encloses add sub mul neg lt le ofBits ofInt
 found-unending = refl
 
-found-no-unending : onePass (unending ∷ unending ∷ []) 7 ≡ 7
-unfolding onePass enclosesAllAt enclosesAll outermostOf endsAmong unenclosableAmong oneIfUnenclosable passing slackOf encloses add sub mul neg lt le ofBits ofInt
+found-no-unending : byOutermost (unending ∷ unending ∷ []) 7 ≡ 7
+unfolding byOutermost enclosesOutermostAt enclosesOutermost outermostOf endsAmong unenclosableAmong oneIfUnenclosable passing slackOf encloses add sub mul neg lt le ofBits ofInt
 found-no-unending = refl
 
-found-no-undefined : onePass (unit ∷ undefined ∷ []) 7 ≡ 7
-unfolding onePass enclosesAllAt enclosesAll outermostOf endsAmong unenclosableAmong oneIfUnenclosable passing slackOf encloses add sub mul neg lt le ofBits ofInt
+found-no-undefined : byOutermost (unit ∷ undefined ∷ []) 7 ≡ 7
+unfolding byOutermost enclosesOutermostAt enclosesOutermost outermostOf endsAmong unenclosableAmong oneIfUnenclosable passing slackOf encloses add sub mul neg lt le ofBits ofInt
 found-no-undefined = refl
 
 -- a box alone is found, although the test would refuse this one
-found-alone : onePass (undefined ∷ []) 7 ≡ 0
-unfolding onePass enclosesAllAt enclosesAll outermostOf endsAmong unenclosableAmong oneIfUnenclosable passing slackOf encloses add sub mul neg lt le ofBits ofInt
+abbrev alone : List Bounds
+alone = undefined ∷ []
+
+found-alone : byOutermost alone 7 ≡ 0
+unfolding byOutermost enclosesOutermostAt enclosesOutermost outermostOf endsAmong unenclosableAmong oneIfUnenclosable passing slackOf encloses add sub mul neg lt le ofBits ofInt
 found-alone = refl
 
-tested-alone : enclosesAllAt plusZero (outermostOf plusZero (undefined ∷ [])) (undefined ∷ []) 0 ≡ false
-unfolding onePass enclosesAllAt enclosesAll outermostOf endsAmong unenclosableAmong oneIfUnenclosable passing slackOf encloses add sub mul neg lt le ofBits ofInt
+tested-alone : enclosesOutermostAt (slackOf alone) (outermostOf (slackOf alone) alone) alone 0 ≡ false
+unfolding enclosesOutermostAt enclosesOutermost outermostOf endsAmong unenclosableAmong oneIfUnenclosable slackOf encloses add sub mul neg lt le ofBits ofInt
 tested-alone = refl
 
-found-nothing : onePass [] 7 ≡ 7
-unfolding onePass enclosesAllAt enclosesAll outermostOf endsAmong unenclosableAmong oneIfUnenclosable passing slackOf encloses add sub mul neg lt le ofBits ofInt
+found-nothing : byOutermost [] 7 ≡ 7
+unfolding byOutermost enclosesOutermostAt enclosesOutermost outermostOf endsAmong unenclosableAmong oneIfUnenclosable passing slackOf encloses add sub mul neg lt le ofBits ofInt
 found-nothing = refl
 
 -- ---- a hole, onto a branch with its middle at 0 and period 4 in u

@@ -2,8 +2,8 @@
 ghost use mathlib.Core.Path.{_≡_};
 ghost use lib.ListN.{length};
 ghost use Rattle.regions.specs.Table.{boxesFrom};
-ghost use Rattle.regions.specs.Outer.{sideOf, slackOf, encloses, passing, theOne, enclosingOne, lastLargest, outerOf};
-ghost use Rattle.regions.specs.OnePass.{emptyBox, hullOf, oneIfUnenclosable, outermostOf, enclosesAll, enclosesAllAt};
+ghost use Rattle.regions.specs.Outer.{sideOf, slackOf, encloses, enclosingOne, lastLargest, outerOf};
+ghost use Rattle.regions.specs.ByOutermost.{emptyBox, hullOf, oneIfUnenclosable, outermostOf, enclosesOutermost, theOneAgainst};
 use super::boxes::Bounds;
 use super::boxes::box_at;
 use super::boxes::box_count;
@@ -85,12 +85,12 @@ fn one_if_unenclosable(slack: f64, b: Bounds) -> usize
     if encloses_within(slack, b, b) { 0 } else { 1 }
 }
 
-fn outermost_ends(ulo: &[f64], uhi: &[f64], vlo: &[f64], vhi: &[f64], slack: f64) -> Outermost
+fn outermost_of(ulo: &[f64], uhi: &[f64], vlo: &[f64], vhi: &[f64], slack: f64) -> Outermost
     ensures { λ r. ⌜ r ≡ outermostOf slack (boxesFrom (now (ulo .entry)) (now (uhi .entry)) (now (vlo .entry)) (now (vhi .entry))) ⌝ }
 {
     let n = box_count(ulo, uhi, vlo, vhi);
     let mut ends = empty_box();
-    let mut count = 0;
+    let mut unenclosable = 0;
     let mut i = 0;
     while i < n {
         let b = box_at(ulo, uhi, vlo, vhi, i);
@@ -98,19 +98,19 @@ fn outermost_ends(ulo: &[f64], uhi: &[f64], vlo: &[f64], vhi: &[f64], slack: f64
         if encloses_within(slack, b, b) {
             ends = hull(ends, b);
         } else {
-            count += 1;
+            unenclosable += 1;
         }
     }
     Outermost {
         ends: ends,
-        unenclosable: count,
+        unenclosable: unenclosable,
     }
 }
 
 // Whether b, one of two or more boxes, encloses all others: it encloses the outermost ends, and none
 // but b itself is unenclosable.
-fn encloses_all(slack: f64, outermost: Outermost, b: Bounds) -> bool
-    ensures { λ r. ⌜ r ≡ enclosesAll slack outermost b ⌝ }
+fn encloses_outermost(slack: f64, outermost: Outermost, b: Bounds) -> bool
+    ensures { λ r. ⌜ r ≡ enclosesOutermost slack outermost b ⌝ }
 {
     if encloses_within(slack, b, outermost.ends) {
         return outermost.unenclosable == one_if_unenclosable(slack, b);
@@ -118,8 +118,8 @@ fn encloses_all(slack: f64, outermost: Outermost, b: Bounds) -> bool
     false
 }
 
-// The one box of which `encloses_all` is true, and `none` where there is none or several.
-fn the_one(
+// The one box of which `encloses_outermost` is true, and `none` where there is none or several.
+fn the_one_against(
     ulo: &[f64],
     uhi: &[f64],
     vlo: &[f64],
@@ -128,7 +128,7 @@ fn the_one(
     outermost: Outermost,
     none: usize,
 ) -> usize
-    ensures { λ r. ⌜ r ≡ theOne (passing (enclosesAllAt slack outermost (boxesFrom (now (ulo .entry)) (now (uhi .entry)) (now (vlo .entry)) (now (vhi .entry)))) (length (boxesFrom (now (ulo .entry)) (now (uhi .entry)) (now (vlo .entry)) (now (vhi .entry))))) none ⌝ }
+    ensures { λ r. ⌜ r ≡ theOneAgainst slack outermost (boxesFrom (now (ulo .entry)) (now (uhi .entry)) (now (vlo .entry)) (now (vhi .entry))) none ⌝ }
 {
     let n = box_count(ulo, uhi, vlo, vhi);
     let mut found = n;
@@ -136,7 +136,7 @@ fn the_one(
     while i < n {
         let k = i;
         i += 1;
-        if encloses_all(slack, outermost, box_at(ulo, uhi, vlo, vhi, k)) {
+        if encloses_outermost(slack, outermost, box_at(ulo, uhi, vlo, vhi, k)) {
             if found < n {
                 return none;
             }
@@ -155,8 +155,8 @@ fn enclosing_one(ulo: &[f64], uhi: &[f64], vlo: &[f64], vhi: &[f64], none: usize
         return 0;
     }
     let slack = slack_of(ulo, uhi, vlo, vhi);
-    let outermost = outermost_ends(ulo, uhi, vlo, vhi, slack);
-    the_one(ulo, uhi, vlo, vhi, slack, outermost, none)
+    let outermost = outermost_of(ulo, uhi, vlo, vhi, slack);
+    the_one_against(ulo, uhi, vlo, vhi, slack, outermost, none)
 }
 
 fn last_largest(areas: &[f64]) -> usize

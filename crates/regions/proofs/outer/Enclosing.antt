@@ -15,7 +15,7 @@ use Rattle.numbers.proofs.Zeros.{plus-zero-is}
 use Rattle.numbers.proofs.Infinities.{add-summand, add-mono-number, add-grows, top-plus, sub-summand, sub-mono-number, sub-falls, bottom-minus, mul-nonneg, le-max}
 use Rattle.regions.specs.declared.boxes.Bounds.{Bounds}
 use Rattle.regions.specs.Outer.{billionth, sideOf, slackOf, encloses}
-use Rattle.regions.specs.OnePass.{emptyBox, hullOf, enclosable}
+use Rattle.regions.specs.ByOutermost.{emptyBox, hullOf, enclosable}
 
 -- ---- the slack is a number, and not negative
 billionth-positive : Positive billionth

@@ -17,7 +17,7 @@ use Rattle.lists.proofs.Folds.{Folding, folding, folding-turn, folding-end}
 use Rattle.regions.specs.declared.boxes.Bounds.{Bounds}
 use Rattle.regions.specs.declared.outer.Outermost.{Outermost}
 use Rattle.regions.specs.Outer.{billionth, sideOf, slackOf, nowhere, boxAt, passing, theOne, lastLargest}
-use Rattle.regions.specs.OnePass.{emptyBox, hullOf, enclosable, oneIfUnenclosable, endsAmong, unenclosableAmong, outermostOf, enclosesAll, enclosesAllAt}
+use Rattle.regions.specs.ByOutermost.{emptyBox, hullOf, enclosable, oneIfUnenclosable, endsAmong, unenclosableAmong, outermostOf, enclosesOutermost, enclosesOutermostAt}
 
 -- ---- the largest side
 module _ (boxes : List Bounds) where
@@ -42,12 +42,12 @@ module _ (boxes : List Bounds) where
 
 -- ---- the outermost ends, and how many boxes are not enclosable
 module _ (slack : Float) (boxes : List Bounds) where
-  pub record Taken (n : ℕ) (ends : Bounds) (count i : ℕ) : Type 0 where
+  pub record Taken (n : ℕ) (ends : Bounds) (unenclosable i : ℕ) : Type 0 where
     pub all : n ≡ length boxes
     pub far : i ≤ n
-    pub few : count ≤ i
+    pub few : unenclosable ≤ i
     pub outermost : ends ≡ endsAmong slack boxes i
-    pub left : count ≡ unenclosableAmong slack boxes i
+    pub left : unenclosable ≡ unenclosableAmong slack boxes i
 
   pub taken : (n : ℕ) (ends : Bounds) → n ≡ length boxes → ends ≡ emptyBox → Taken n ends 0 0
   taken n ends e p = record {
@@ -59,12 +59,12 @@ module _ (slack : Float) (boxes : List Bounds) where
   }
 
   module _
-      (n : ℕ) (ends : Bounds) (count i : ℕ) (k : Taken n ends count i) (h : i < n)
+      (n : ℕ) (ends : Bounds) (unenclosable i : ℕ) (k : Taken n ends unenclosable i) (h : i < n)
       (b : Bounds) (p : b ≡ boxAt boxes i) (t : Bool) (q : t ≡ enclosable slack b) where
     test : (w : Bool) → t ≡ w → enclosable slack (boxAt boxes i) ≡ w
     test w e = rw (← p, ← q, e)
 
-    pub taken-hull : t ≡ true → (wide : Bounds) → wide ≡ hullOf ends b → Taken n wide count (i + 1)
+    pub taken-hull : t ≡ true → (wide : Bounds) → wide ≡ hullOf ends b → Taken n wide unenclosable (i + 1)
     taken-hull e wide w = record {
       all = k .all;
       far = omega arith;
@@ -77,7 +77,7 @@ module _ (slack : Float) (boxes : List Bounds) where
     unfolding oneIfUnenclosable
     counts-one e = rw (test false e)
 
-    pub taken-not : t ≡ false → Taken n ends (count + 1) (i + 1)
+    pub taken-not : t ≡ false → Taken n ends (unenclosable + 1) (i + 1)
     taken-not e = record {
       all = k .all;
       far = omega arith;
@@ -86,15 +86,15 @@ module _ (slack : Float) (boxes : List Bounds) where
       left = unfold unenclosableAmong in rw (add-one i, counts-one e, ← (k .left));
     }
 
-  pub taken-all : (n : ℕ) (ends : Bounds) (count i : ℕ) → Taken n ends count i → n ≤ i
-      → record { ends = ends; unenclosable = count } ≡ outermostOf slack boxes
+  pub taken-all : (n : ℕ) (ends : Bounds) (unenclosable i : ℕ) → Taken n ends unenclosable i → n ≤ i
+      → record { ends = ends; unenclosable = unenclosable } ≡ outermostOf slack boxes
   unfolding outermostOf
-  taken-all n ends count i k h = let e : i ≡ length boxes = omega (arith, k .far, k .all) in rw (k .outermost, k .left, e)
+  taken-all n ends unenclosable i k h = let e : i ≡ length boxes = omega (arith, k .far, k .all) in rw (k .outermost, k .left, e)
 
 -- ---- a box held against them
 pub held-at : (slack : Float) (outermost : Outermost) (boxes : List Bounds) (i : ℕ) (b : Bounds) (t w : Bool)
-    → b ≡ boxAt boxes i → t ≡ enclosesAll slack outermost b → t ≡ w → enclosesAllAt slack outermost boxes i ≡ w
-unfolding enclosesAllAt
+    → b ≡ boxAt boxes i → t ≡ enclosesOutermost slack outermost b → t ≡ w → enclosesOutermostAt slack outermost boxes i ≡ w
+unfolding enclosesOutermostAt
 held-at slack outermost boxes i b t w p q e = rw (← p, ← q, e)
 
 -- ---- the one number below m at which a test passes; found is n until one is

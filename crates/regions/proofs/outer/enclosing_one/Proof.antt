@@ -1,5 +1,5 @@
 use borrow.Author.Needs.{needs}
-use Rattle.regions.proofs.outer.OnePass.{one-answer, other-answer, slices-found}
+use Rattle.regions.proofs.outer.ByOutermost.{one-answer, other-answer, slices-found}
 use Rattle.regions.proofs.outer.enclosing_one.Statement.{statement}
 use Rattle.regions.proofs.outer.enclosing_one.Tie as tie
 
@@ -12,11 +12,11 @@ returns c = search (slices-found, one-answer, needs)
 slack-of-requires : tie.Need-slack-of-requires
 slack-of-requires c κs = search needs
 
-outermost-ends-requires : tie.Need-outermost-ends-requires
-outermost-ends-requires c κs = search needs
+outermost-of-requires : tie.Need-outermost-of-requires
+outermost-of-requires c κs = search needs
 
-the-one-requires : tie.Need-the-one-requires
-the-one-requires c κs = search needs
+the-one-against-requires : tie.Need-the-one-against-requires
+the-one-against-requires c κs = search needs
 
 returns-2 : tie.Need-returns-2
 returns-2 c = search (slices-found, other-answer, needs)
@@ -28,6 +28,6 @@ enclosing-one-spec =
     box-count-requires
     returns
     slack-of-requires
-    outermost-ends-requires
-    the-one-requires
+    outermost-of-requires
+    the-one-against-requires
     returns-2)

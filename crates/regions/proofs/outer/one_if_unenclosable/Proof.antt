@@ -1,5 +1,5 @@
 use borrow.Author.Needs.{needs}
-use Rattle.regions.specs.OnePass.{oneIfUnenclosable}
+use Rattle.regions.specs.ByOutermost.{oneIfUnenclosable}
 use Rattle.regions.proofs.outer.one_if_unenclosable.Statement.{statement}
 use Rattle.regions.proofs.outer.one_if_unenclosable.Tie as tie
 

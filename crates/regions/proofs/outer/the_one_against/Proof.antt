@@ -3,13 +3,13 @@ use native.Mathlib.Omega.{arith}
 use borrow.Author.Needs.{needs}
 use lib.ListN.{length}
 use Rattle.regions.specs.Table.{boxesFrom}
-use Rattle.regions.specs.OnePass.{enclosesAllAt}
+use Rattle.regions.specs.ByOutermost.{enclosesOutermostAt}
 use Rattle.regions.proofs.outer.Laws as laws
-use Rattle.regions.proofs.outer.the_one.Statement.{statement}
-use Rattle.regions.proofs.outer.the_one.Tie as tie
+use Rattle.regions.proofs.outer.the_one_against.Statement.{statement}
+use Rattle.regions.proofs.outer.the_one_against.Tie as tie
 
 abbrev Inv-loop : tie.InvT-loop
-Inv-loop ulo uhi vlo vhi slack outermost none n found₀ i₀ found i = laws.Seeking (enclosesAllAt slack outermost (boxesFrom ulo uhi vlo vhi)) (length (boxesFrom ulo uhi vlo vhi)) n found i
+Inv-loop ulo uhi vlo vhi slack outermost none n found₀ i₀ found i = laws.Seeking (enclosesOutermostAt slack outermost (boxesFrom ulo uhi vlo vhi)) (length (boxesFrom ulo uhi vlo vhi)) n found i
 
 abbrev μ-loop : tie.MeasureT-loop
 μ-loop ulo uhi vlo vhi slack outermost none n found₀ i₀ found i = n - i
@@ -26,8 +26,8 @@ add-i c = omega arith
 box-at-requires : tie.Need-box-at-requires Inv-loop μ-loop
 box-at-requires c κs = search needs
 
-encloses-all-requires : tie.Need-encloses-all-requires Inv-loop μ-loop
-encloses-all-requires c κs = search needs
+encloses-outermost-requires : tie.Need-encloses-outermost-requires Inv-loop μ-loop
+encloses-outermost-requires c κs = search needs
 
 returns : tie.Need-returns Inv-loop μ-loop
 returns c = search (laws.seeking-two, laws.held-at, needs)
@@ -50,8 +50,8 @@ returns-2 c = laws.found-one _ _ _ _ _ _ (c .before .before .loop .inv) (c .befo
 returns-3 : tie.Need-returns-3 Inv-loop μ-loop
 returns-3 c = laws.found-none _ _ _ _ _ _ (c .before .before .loop .inv) (c .before .loop-test .left) (c .if3 .left)
 
-pub the-one-spec : {M : Type 1} → statement M
-the-one-spec =
+pub the-one-against-spec : {M : Type 1} → statement M
+the-one-against-spec =
     tie.close
     (tie.spec
     Inv-loop
@@ -60,7 +60,7 @@ the-one-spec =
     loop-holds
     add-i
     box-at-requires
-    encloses-all-requires
+    encloses-outermost-requires
     returns
     loop-less
     loop-again

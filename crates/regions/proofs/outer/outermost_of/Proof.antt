@@ -3,14 +3,14 @@ use native.Mathlib.Omega.{arith}
 use borrow.Author.Needs.{needs}
 use Rattle.regions.specs.Table.{boxesFrom}
 use Rattle.regions.proofs.outer.Laws as laws
-use Rattle.regions.proofs.outer.outermost_ends.Statement.{statement}
-use Rattle.regions.proofs.outer.outermost_ends.Tie as tie
+use Rattle.regions.proofs.outer.outermost_of.Statement.{statement}
+use Rattle.regions.proofs.outer.outermost_of.Tie as tie
 
 abbrev Inv-loop : tie.InvT-loop
-Inv-loop ulo uhi vlo vhi slack n ends₀ count₀ i₀ ends count i = laws.Taken slack (boxesFrom ulo uhi vlo vhi) n ends count i
+Inv-loop ulo uhi vlo vhi slack n ends₀ unenclosable₀ i₀ ends unenclosable i = laws.Taken slack (boxesFrom ulo uhi vlo vhi) n ends unenclosable i
 
 abbrev μ-loop : tie.MeasureT-loop
-μ-loop ulo uhi vlo vhi slack n ends₀ count₀ i₀ ends count i = n - i
+μ-loop ulo uhi vlo vhi slack n ends₀ unenclosable₀ i₀ ends unenclosable i = n - i
 
 box-count-requires : tie.Need-box-count-requires Inv-loop μ-loop
 box-count-requires c κs = search needs
@@ -39,8 +39,8 @@ loop-less c = omega arith
 loop-again : tie.Need-loop-again Inv-loop μ-loop
 loop-again c = search (laws.taken-hull, needs)
 
-add-count : tie.Need-add-count Inv-loop μ-loop
-add-count c = omega arith
+add-unenclosable : tie.Need-add-unenclosable Inv-loop μ-loop
+add-unenclosable c = omega arith
 
 loop-less-2 : tie.Need-loop-less-2 Inv-loop μ-loop
 loop-less-2 c = omega arith
@@ -51,8 +51,8 @@ loop-again-2 c = search (laws.taken-not, needs)
 returns : tie.Need-returns Inv-loop μ-loop
 returns c = laws.taken-all _ _ _ _ _ _ (c .before .loop .inv) (c .loop-test .left)
 
-pub outermost-ends-spec : {M : Type 1} → statement M
-outermost-ends-spec =
+pub outermost-of-spec : {M : Type 1} → statement M
+outermost-of-spec =
     tie.close
     (tie.spec
     Inv-loop
@@ -66,7 +66,7 @@ outermost-ends-spec =
     hull-requires
     loop-less
     loop-again
-    add-count
+    add-unenclosable
     loop-less-2
     loop-again-2
     returns)

@@ -15,7 +15,7 @@ use Rattle.numbers.proofs.Monotone.{Zero}
 use Rattle.regions.specs.declared.boxes.Bounds.{Bounds}
 use Rattle.regions.specs.declared.outer.Outermost.{Outermost}
 use Rattle.regions.specs.Outer.{slackOf, encloses, boxAt, every, passing, theOne, enclosesOther, enclosesOthers, enclosingOne}
-use Rattle.regions.specs.OnePass.{emptyBox, hullOf, enclosable, oneIfUnenclosable, endsAmong, unenclosableAmong, outermostOf, enclosesAll, enclosesAllAt, onePass}
+use Rattle.regions.specs.ByOutermost.{emptyBox, hullOf, enclosable, oneIfUnenclosable, endsAmong, unenclosableAmong, outermostOf, enclosesOutermost, enclosesOutermostAt, theOneAgainst, byOutermost}
 use Rattle.regions.specs.Table.{boxesFrom}
 use Rattle.regions.proofs.boxes.Laws.{box-within, box-past}
 use Rattle.regions.proofs.outer.Enclosing.{Fits, Encloses, Movable, tests, tested, movable, hull-movable, hull-enclosed, hull-each, empty-movable, empty-enclosed, enclosed-enclosable, slack-nonneg}
@@ -133,7 +133,8 @@ module _ (slack : Float) (boxes : List Bounds) where
         go before false m = before
 
     -- what encloses them encloses each enclosable box
-    ends-both : (b : Bounds) (n : ℕ) → Encloses slack b (ends (suc n)) → Encloses slack b (ends n) × (T (enclosable slack (box n)) → Encloses slack b (box n))
+    ends-both : (b : Bounds) (n : ℕ) → Encloses slack b (ends (suc n))
+        → Encloses slack b (ends n) × (T (enclosable slack (box n)) → Encloses slack b (box n))
     unfolding endsAmong
     ends-both b n e = go (enclosable slack (box n)) (box-movable n) e
       where
@@ -172,8 +173,8 @@ module _ (slack : Float) (boxes : List Bounds) where
       abbrev alone : Bool
       alone = eqb (among n) (one i)
 
-      enough : T (enclosesAllAt slack (outermostOf slack boxes) boxes i) → T (enclosesOthers slack boxes i)
-      unfolding enclosesAllAt enclosesAll outermostOf enclosesOthers enclosesOther
+      enough : T (enclosesOutermostAt slack (outermostOf slack boxes) boxes i) → T (enclosesOthers slack boxes i)
+      unfolding enclosesOutermostAt enclosesOutermost outermostOf enclosesOthers enclosesOther
       enough t = each-every (enclosesOther slack boxes i) n (λ j k. go j k (eqb i j) refl)
         where
           go : (j : ℕ) → j < n → (w : Bool) → eqb i j ≡ w → T (w || encloses slack (box i) (box j))
@@ -188,8 +189,8 @@ module _ (slack : Float) (boxes : List Bounds) where
       unfolding enclosesOthers enclosesOther
       other t j k d = rw (ne-eqb i j d) at (every-each (enclosesOther slack boxes i) n j t k)
 
-      needed : (n ≡ 1 → ⊥) → T (enclosesOthers slack boxes i) → T (enclosesAllAt slack (outermostOf slack boxes) boxes i)
-      unfolding enclosesAllAt enclosesAll outermostOf
+      needed : (n ≡ 1 → ⊥) → T (enclosesOthers slack boxes i) → T (enclosesOutermostAt slack (outermostOf slack boxes) boxes i)
+      unfolding enclosesOutermostAt enclosesOutermost outermostOf
       needed many t =
           let count = only-counts i n (λ j k d. enclosed-enclosable slack nonneg (box i) (box j) (fit j) (other t j k d)) .0 h in
           let all = ends-enclosed (box i) (another i refl) n (λ j k o. tests slack (box i) (box j) (go j k o (eqb i j) refl)) in
@@ -217,7 +218,7 @@ unfolding enclosingOne passing
 alone-found slack boxes none e = rw (e, alone-encloses slack boxes e)
 
 several-found : (boxes : List Bounds) → ((j : ℕ) → Fits (boxAt boxes j)) → (none : ℕ) → (length boxes ≡ 1 → ⊥)
-    → theOne (passing (enclosesAllAt (slackOf boxes) (outermostOf (slackOf boxes) boxes) boxes) (length boxes)) none ≡ enclosingOne (slackOf boxes) boxes none
+    → theOneAgainst (slackOf boxes) (outermostOf (slackOf boxes) boxes) boxes none ≡ enclosingOne (slackOf boxes) boxes none
 unfolding enclosingOne
 several-found boxes fit none many = ap (λ (is : List ℕ). theOne is none) (passing-same held others (length boxes) same)
   where
@@ -225,7 +226,7 @@ several-found boxes fit none many = ap (λ (is : List ℕ). theOne is none) (pas
     slack = slackOf boxes
 
     held : ℕ → Bool
-    held = enclosesAllAt slack (outermostOf slack boxes) boxes
+    held = enclosesOutermostAt slack (outermostOf slack boxes) boxes
 
     others : ℕ → Bool
     others = enclosesOthers slack boxes
@@ -237,12 +238,13 @@ several-found boxes fit none many = ap (λ (is : List ℕ). theOne is none) (pas
 
 -- 02, N6: "for any number of boxes it is proved to find what every box held against every other would". That the ends fit 64 bits holds of every box
 -- of four slices, and of `nowhere`, which is read past the last one (`boxes-fit`).
-pub one-pass : (boxes : List Bounds) → ((j : ℕ) → Fits (boxAt boxes j)) → (none : ℕ) → onePass boxes none ≡ enclosingOne (slackOf boxes) boxes none
-unfolding onePass
-one-pass boxes fit none = go (eqb (length boxes) 1) refl
+pub by-outermost : (boxes : List Bounds) → ((j : ℕ) → Fits (boxAt boxes j)) → (none : ℕ)
+    → byOutermost boxes none ≡ enclosingOne (slackOf boxes) boxes none
+unfolding byOutermost
+by-outermost boxes fit none = go (eqb (length boxes) 1) refl
   where
     several : ℕ
-    several = theOne (passing (enclosesAllAt (slackOf boxes) (outermostOf (slackOf boxes) boxes) boxes) (length boxes)) none
+    several = theOneAgainst (slackOf boxes) (outermostOf (slackOf boxes) boxes) boxes none
 
     go : (w : Bool) → eqb (length boxes) 1 ≡ w → cond w 0 several ≡ enclosingOne (slackOf boxes) boxes none
     go true e = alone-found (slackOf boxes) boxes none (eqb-true (length boxes) 1 e)
@@ -250,14 +252,14 @@ one-pass boxes fit none = go (eqb (length boxes) 1) refl
 
 -- ---- the code's two answers
 module _ (boxes : List Bounds) (none n : ℕ) (all : n ≡ length boxes) where
-  pub one-answer : n ≡ 1 → 0 ≡ onePass boxes none
-  unfolding onePass
+  pub one-answer : n ≡ 1 → 0 ≡ byOutermost boxes none
+  unfolding byOutermost
   one-answer e = rw (← all, eq-eqb n 1 e)
 
-  pub other-answer : (n ≡ 1 → ⊥) → (slack : Float) → slack ≡ slackOf boxes → (ends : Outermost) → ends ≡ outermostOf slack boxes
-      → (x : ℕ) → x ≡ theOne (passing (enclosesAllAt slack ends boxes) (length boxes)) none → x ≡ onePass boxes none
-  unfolding onePass
-  other-answer d slack p ends q x e = rw (ne-eqb (length boxes) 1 (λ o. d (all ∙ o)), ← p, ← q) e
+  pub other-answer : (n ≡ 1 → ⊥) → (slack : Float) → slack ≡ slackOf boxes → (outermost : Outermost) → outermost ≡ outermostOf slack boxes
+      → (x : ℕ) → x ≡ theOneAgainst slack outermost boxes none → x ≡ byOutermost boxes none
+  unfolding byOutermost
+  other-answer d slack p outermost q x e = rw (ne-eqb (length boxes) 1 (λ o. d (all ∙ o)), ← p, ← q) e
 
 -- ---- over four slices of ends
 abbrev AllFit : List Float → Type 0
@@ -276,5 +278,5 @@ module _ (ul uh vl vh : List Float) (p : AllFit ul) (q : AllFit uh) (r : AllFit 
           let past = box-past ul uh vl vh (length boxes) j refl (omega arith) in
           rw (← past) (unfold fits in record { ulo = tt; uhi = tt; vlo = tt; vhi = tt })
 
-  pub slices-found : (none x : ℕ) → x ≡ onePass boxes none → x ≡ enclosingOne (slackOf boxes) boxes none
-  slices-found none x e = e ∙ one-pass boxes boxes-fit none
+  pub slices-found : (none x : ℕ) → x ≡ byOutermost boxes none → x ≡ enclosingOne (slackOf boxes) boxes none
+  slices-found none x e = e ∙ by-outermost boxes boxes-fit none
