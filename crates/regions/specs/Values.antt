@@ -34,7 +34,7 @@ enclosing-square : outerOf (boxesOf (squareU (count 2) ∷ squareU (count 1) ∷
 unfolding outerOf boxesOf leastOf greatestOf slackOf encloses every passing enclosesOther enclosesOthers enclosingOne lastLargest absOf add sub mul neg lt le ofBits ofInt
 enclosing-square = refl
 
--- it may fall short by 10^-9 of the largest side: here by 10^-9 itself, and the side is a little more than 1
+-- it may fall short by 10^-9 of the largest side, here a little more than 1: the further end less that rounds to 1
 short-square : outerOf (boxesOf (squareU (count 1) ∷ (count 0 ∷ (count 1 ⊕ billionth) ∷ []) ∷ []) (squareV (count 1) ∷ (count 0 ∷ count 0 ∷ []) ∷ [])) (count 0 ∷ count 1 ∷ []) ≡ 0
 unfolding outerOf boxesOf leastOf greatestOf slackOf encloses every passing enclosesOther enclosesOthers enclosingOne lastLargest absOf add sub mul neg lt le ofBits ofInt
 short-square = refl
