@@ -1,7 +1,7 @@
 //! How the time of `closed_region`, which finds the outer loop, grows with the number of loops, up
 //! to far more than a record holds. Timed on both sides are the boxes of loops of four points, the
-//! lists that they are put in, and the search with its areas; on the Rust's also that the outer
-//! loop is taken out of the loops.
+//! making of the lists that hold them, and the search with its areas; on the Rust's also that the
+//! outer loop is taken out of the loops.
 
 use crate::compared::{self, Table};
 use crate::original::{UvLoop, Vec2, closed_region};
@@ -10,10 +10,10 @@ use std::time::{Duration, Instant};
 
 const LOOPS: [usize; 5] = [16, 64, 300, 1024, 4096];
 
-/// Where the time of a loop at the greatest number of loops is more than so many times that at the
-/// least, the run fails. Of loops each within the next it is eighty times and more where every box
-/// is held against every other.
-const MOST_GROWTH: f64 = 4.0;
+/// Where the time of a loop among 4,096 is more than so many times that of one among 300, the run
+/// fails. Of loops each within the next it is thirteen times where every box is held against every
+/// other.
+const MOST_GROWTH: f64 = 2.0;
 
 /// Holding a box against every other ends at the first that it does not enclose: among holes side
 /// by side at once, and where each loop lies within the next only after all that lie within it.
@@ -30,8 +30,11 @@ pub fn print(rounds: u32) {
             println!("bench: {n:32} {rattle:9.1} {rust:9.1} {:6.2}", rattle / rust);
             rattle
         });
-        if times[LOOPS.len() - 1] > MOST_GROWTH * times[0] {
-            println!("bench: {name}: the time of a loop grows over {MOST_GROWTH} times");
+        let [_, _, among_300, _, among_4096] = times;
+        if among_4096 > MOST_GROWTH * among_300 {
+            println!(
+                "bench: {name}: from 300 loops to 4,096 each takes over {MOST_GROWTH} times as long"
+            );
             std::process::exit(1);
         }
     }
@@ -78,7 +81,8 @@ fn nested(n: usize) -> Vec<UvLoop> {
 }
 
 /// The square with corners (lo, lo) and (hi, hi), and its number as `travel`, which bands alone
-/// read. The larger it is the less is its area, so that the outer loop is not found by that.
+/// read. The larger it is the less is the area that it is given, so that the outer loop is not
+/// found by that.
 fn square(number: usize, lo: f64, hi: f64) -> UvLoop {
     let uv = [(lo, lo), (hi, lo), (hi, hi), (lo, hi)].map(|(u, v)| Vec2::new(u, v)).to_vec();
     UvLoop { uv, xyz: Vec::new(), wrap: 0, travel: number as i32, area: 1.0 / (hi - lo) }
