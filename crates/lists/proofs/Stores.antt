@@ -4,8 +4,8 @@ use mathlib.Core.Path.{_≡_, refl, sym, ap, _∙_}
 use mathlib.Core.List.{List, [], _∷_, _++_, append-nil}
 use native.Mathlib.Omega.{arith}
 use lib.Dec.{ltb}
-use lib.ListN.{length, take, drop, set, length-take, length-set, take-append-drop}
-use lib.Seq.{sets, length-take-le, sets-eq, set-out, take-nil, take-set-lt, drop-set-lt, drop-length}
+use lib.ListN.{length, getD, take, drop, set, length-take, length-set, take-append-drop, List·getD-append}
+use lib.Seq.{sets, length-take-le, getD-take, sets-eq, set-out, take-nil, take-set-lt, drop-set-lt, drop-length}
 use borrow.Author.Tests.{ltb-true, ltb-false}
 use mathlib.Core.Bool.{Bool, true, false}
 
@@ -54,3 +54,13 @@ module _ {A : Type 0} where
       let k : length l ≤ 0 + length l = omega arith in
       let e : length l ≡ length (take (length l) vs) = sym (length-take-le (length l) vs h) in
       sym (sets-room l 0 (length l) vs k) ∙ sets-whole l (take (length l) vs) e
+
+  -- a place that is stored to
+  pub sets-at : (l vs : List A) (k : ℕ) (z : A) → k < length l → k < length vs → getD (sets l 0 vs) k z ≡ getD vs k z
+  sets-at l vs k z h i =
+      let n = length l in
+      let w = take n vs in
+      let m = length-take n vs in
+      let fits : 0 + length w ≤ length l = omega arith in
+      ap (λ (x : List A). getD x k z) (sym (sets-room l 0 n vs (omega arith)) ∙ sets-eq w l 0 fits) ∙ List·getD-append w (drop (0 + length w) l) z k (omega arith)
+      ∙ getD-take n vs k z h

@@ -7,7 +7,7 @@ use native.Mathlib.Omega.{arith}
 use mathlib.Core.Bool.{Bool, true, false, not, _&&_, _||_, cond, Bool·beq}
 use lib.IntN.{ℤ, pos}
 use lib.Dec.{T, ltb, eqb}
-use lib.Ieee.{Float, nan, inf, fin, binary64, up, down, low, prec, size, nearest, units, round, sum, add, sub, mul, neg, unlike, le, eq, level, fits, ofBits, ofInt}
+use lib.Ieee.{Float, nan, inf, fin, binary64, up, down, low, prec, size, nearest, units, round, sum, add, sub, mul, neg, unlike, le, eq, level, fits, isNan, ofBits, ofInt}
 use lib.Ieee.Fits.{up-pos, down-pos, round-is}
 use lib.Ieee.Exact.{HasValue}
 use lib.Ieee.Scale.{finite}
@@ -16,7 +16,7 @@ use Rattle.numbers.specs.Constants.{plusZero}
 use Rattle.numbers.specs.Rounded.{_⊕_, _⊖_, _⊗_, _⊘_, count}
 use Rattle.numbers.proofs.Reals.{exact, fits-digits, fits-under}
 use Rattle.numbers.proofs.Signed.{zero-is, le-numbers, le→cross}
-use Rattle.numbers.proofs.Equality.{and-both, or-left, or-right, eq-beq}
+use Rattle.numbers.proofs.Equality.{and-both, or-left, or-right, eq-beq, eq-refl}
 use Rattle.numbers.proofs.Magnitude.{units-shape}
 use Rattle.numbers.proofs.Monotone.{Positive, div-at, ofInt-positive}
 
@@ -195,3 +195,83 @@ zero-times-count (suc i) h = let p = ofInt-positive binary64 (suc i) (zero-lt-su
 
 pub no-width : (w c : Float) (i : ℕ) → w ≡ nil false → Positive c → i ≤ 2 ^ 53 → w ⊗ count i ⊘ c ≡ nil false
 no-width w c i e p h = ap (λ (z : Float). z ⊗ count i ⊘ c) e ∙ ap (λ (z : Float). z ⊘ c) (zero-times-count i h) ∙ zero-over false c p
+
+-- ---- one as numbers: the same datum, or both a zero
+abbrev pub IsNil : Float → Type 0
+IsNil x = (s : Bool) × (x ≡ nil s)
+
+abbrev pub AsOne : Float → Float → Type 0
+AsOne x y = (x ≡ y) ⊎ (IsNil x × IsNil y)
+
+pub as-one-eq : (x y : Float) → T (finite x) → AsOne x y → eq x y ≡ true
+unfolding isNan
+as-one-eq x y h (inl e) = subst (λ (z : Float). eq x z ≡ true) e (eq-refl x (number x h))
+  where
+    number : (x : Float) → T (finite x) → T (not (isNan x))
+    number nan h = absurd h
+    number (inf s) h = absurd h
+    number (fin s m e) h = tt
+as-one-eq x y h (inr ((s, e), (t, f))) = rw (e, f) (zero-eq s t (pos 0))
+
+-- a product with a zero
+pub times-nil : (x y : Float) → T (finite x) → IsNil y → IsNil (x ⊗ y)
+unfolding mul
+times-nil nan y h p = absurd h
+times-nil (inf s) y h p = absurd h
+times-nil (fin s m e) y h (t, p) =
+    let none = ap (λ (z : ℕ). round binary64 (unlike s t) z (down e * 1)) (mul-zero (m * up e)) in
+    (unlike s t, rw p (none ∙ zero-is binary64 (unlike s t) (down e * 1) (mul-pos (down-pos e) (zero-lt-suc 0))))
+
+pub nil-times : (x y : Float) → IsNil x → T (finite y) → IsNil (x ⊗ y)
+unfolding mul
+nil-times x nan p h = absurd h
+nil-times x (inf s) p h = absurd h
+nil-times x (fin t n d) (s, p) h =
+    let none = ap (λ (z : ℕ). round binary64 (unlike s t) z (1 * down d)) (zero-mul (n * up d)) in
+    (unlike s t, rw p (none ∙ zero-is binary64 (unlike s t) (1 * down d) (mul-pos (zero-lt-suc 0) (down-pos d))))
+
+-- zeros added to what is one as numbers
+plus-nil : (x : Float) (s t : Bool) → AsOne (x ⊕ nil s) (x ⊕ nil t)
+unfolding add
+plus-nil nan s t = inl refl
+plus-nil (inf u) s t = inl refl
+plus-nil (fin u zero e) s t = inr ((u && s, none-plus u e s (pos 0)), (u && t, none-plus u e t (pos 0)))
+plus-nil (fin u (suc m) e) s t = inl (some-plus u m e s (pos 0) ∙ sym (some-plus u m e t (pos 0)))
+
+pub plus-nils : (x y a b : Float) → IsNil a → IsNil b → AsOne x y → AsOne (x ⊕ a) (y ⊕ b)
+plus-nils x y a b (s, p) (t, q) (inl e) = rw (p, q, ← e) (plus-nil x s t)
+plus-nils x y a b (s, p) (t, q) (inr ((u, e), (v, f))) = rw (p, q, e, f) (inr ((u && s, none-plus u (pos 0) s (pos 0)), (v && t, none-plus v (pos 0) t (pos 0))))
+
+sum-other : (s t : Bool) (a c : ℕ) → 0 < a → sum binary64 s 0 t a c ≡ round binary64 t a c
+unfolding sum
+sum-other s t a c h = go s t
+  where
+    less : (s t : Bool) → cond (ltb 0 a) (round binary64 t (a - 0) c) (round binary64 (s && ltb a 0) (0 - a) c) ≡ round binary64 t a c
+    less s t =
+        let d : a - 0 ≡ a = omega arith in
+        ap (λ (b : Bool). cond b (round binary64 t (a - 0) c) (round binary64 (s && ltb a 0) (0 - a) c)) (lt-ltb 0 a h) ∙ ap (λ (n : ℕ). round binary64 t n c) d
+
+    go : (s t : Bool)
+        → cond (Bool·beq s t) (round binary64 s (0 + a) c) (cond (ltb 0 a) (round binary64 t (a - 0) c) (round binary64 (s && ltb a 0) (0 - a) c)) ≡ round binary64 t a c
+    go true true = let z : 0 + a ≡ a = omega arith in ap (λ (n : ℕ). round binary64 true n c) z
+    go true false = less true false
+    go false true = less false true
+    go false false = let z : 0 + a ≡ a = omega arith in ap (λ (n : ℕ). round binary64 false n c) z
+
+nil-plus : (s t : Bool) (m : ℕ) (e : ℤ) → nil s ⊕ fin t (suc m) e ≡ round binary64 t (suc m * up e * 1) (1 * down e)
+unfolding add
+nil-plus s t m e =
+    let some = mul-pos (mul-pos (zero-lt-suc m) (up-pos e)) (zero-lt-suc 0) in
+    ap (λ (z : ℕ). sum binary64 s z t (suc m * up e * 1) (1 * down e)) (zero-mul (down e)) ∙ sum-other s t (suc m * up e * 1) (1 * down e) some
+
+-- and anything
+pub plus-as-one : (x y z : Float) → AsOne x y → AsOne (x ⊕ z) (y ⊕ z)
+unfolding add
+plus-as-one x y z (inl e) = inl (ap (λ (w : Float). w ⊕ z) e)
+plus-as-one x y z (inr ((s, e), (t, f))) = rw (e, f) (go z)
+  where
+    go : (z : Float) → AsOne (nil s ⊕ z) (nil t ⊕ z)
+    go nan = inl refl
+    go (inf u) = inl refl
+    go (fin u zero d) = inr ((s && u, none-plus s (pos 0) u d), (t && u, none-plus t (pos 0) u d))
+    go (fin u (suc n) d) = inl (nil-plus s u n d ∙ sym (nil-plus t u n d))
