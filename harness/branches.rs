@@ -21,8 +21,13 @@ branches! {
 REGIONS:
     // closed_region and rephase_holes
     OneEncloses LargestArea HoleStays HoleMovedInU HoleMovedInV
-    // full_domain_loop: the least and the greatest number of steps
-    StepsAt3 StepsAt256;
+    // full_domain_loop: the least and the greatest number of steps, and numbers of them of which the
+    // top division would leave a gap: short of a turn of a torus, beside the pole of a sphere
+    StepsAt3 StepsAt256 TorusShortInU TorusShortInV SphereBesidePole;
+LADDERS:
+    // merge_even (02, N2): a last rung that is not the upper bound is set to it, or it is added
+    // after a lone lower bound
+    LastRungSet EndAdded;
 BANDS:
     // wrapped_region: rings
     RingReversed RingShifted MinusZeroShifted WrapsTwice WrapsMore

@@ -23,7 +23,7 @@ mod original {
     include!(env!("ORIGINAL"));
 }
 
-use branches::{NUMBER, face_done};
+use branches::{BANDS, LIMITS, NUMBER, REGIONS, face_done};
 use calls::{Call, call};
 use judge::{Answer, judge, six_bytes};
 use random::Random;
@@ -138,8 +138,9 @@ fn hold_all_met(times: &BTreeMap<Meeting, usize>) {
     let refused = |number: u32| {
         times.keys().any(|m| matches!(m, Meeting::Refusal { number: n, .. } if *n == number))
     };
-    let branches = (0..NUMBER).all(|i| times.contains_key(&Meeting::Branch(i)));
-    if !branches || !(1..=12).all(refused) {
+    let branches = [REGIONS, BANDS, LIMITS].concat();
+    let met = branches.iter().all(|b| times.contains_key(&Meeting::Branch(*b as usize)));
+    if !met || !(1..=12).all(refused) {
         eprintln!("store: the faces leave a branch, a limit or a refusal out");
         std::process::exit(1);
     }

@@ -1,7 +1,9 @@
 //! The layer of surfaces against the Rust: points, domains, step counts and ladders, on random
 //! surfaces and on all limits of document 01, "The face record".
 
+use crate::branches::{LADDERS, all_met, face_done, forget};
 use crate::compared::{self, Limits};
+use crate::items::H;
 use crate::original::{Axis, Vec2, direction_steps, merge_even, v_steps};
 use crate::report::{Check, Run};
 use crate::shapes::{KINDS, Kind, Shape, at_limits, parameter, shape, symmetric};
@@ -115,10 +117,16 @@ fn whole_steps(run: &Run) {
 
 fn ladders(run: &Run) {
     let mut check = run.check("merge_even");
+    forget();
     for (lo, hi) in [(0.0, 1.0), (3.0, 3.0), (-0.0, 0.0), (0.0, -0.0), (-1e6, 1e6), (0.0, 1e-320)] {
         for n in [0, 1, 2, 3, 64, 256, 134_300] {
             ladder(&mut check, true, lo, hi, n);
         }
+    }
+    // The ladders of whole surfaces.
+    for n in 0..=256 {
+        ladder(&mut check, true, 0.0, 4.0 * H, n);
+        ladder(&mut check, true, -H, H, n);
     }
     for i in 0..run.times * CASES {
         let random = &mut check.random;
@@ -139,14 +147,22 @@ fn ladders(run: &Run) {
         ladder(&mut check, false, lo, hi, n as usize);
     }
     check.done();
+    if !all_met(LADDERS) {
+        println!("comparison: the ladders leave a case of the last rung out");
+        std::process::exit(1);
+    }
 }
 
-/// The whole ladder, and its inner rungs.
+/// The whole ladder, its end where the bounds differ (02, N2), and its inner rungs.
 fn ladder(check: &mut Check, edge: bool, lo: f64, hi: f64, n: usize) {
     let rust = merge_even(&[], lo, hi, n);
-    let mut all = vec![0.0; compared::merge_even_steps(lo, hi, n) + 1];
+    let mut all = vec![f64::NAN; compared::merge_even_steps(lo, hi, n) + 1];
     compared::merge_even(lo, hi, n, 0, &mut all);
+    face_done();
     check.see(edge, &[lo, hi, n as f64], &all, &rust);
+    if lo != hi {
+        check.see(edge, &[lo, hi, n as f64], &all[all.len() - 1..], &[hi]);
+    }
     let inner = &rust[1..rust.len().saturating_sub(1).max(1)];
     let mut room = vec![0.0; rust.len()];
     let count = compared::inner_into(lo, hi, n, &mut room);

@@ -1,5 +1,6 @@
-//! The values of document 01, "Values to hold", of the cut Rust and of the records made with it:
-//! they show that what is compared with is what the document means.
+//! The values of document 01, "Values to hold", and of the requests of document 02 that are put into
+//! the Rust, of the cut Rust and of the records made with it: they show that what is compared with is
+//! what the documents mean.
 
 use crate::faces::{Face, Loop};
 use crate::items::H;
@@ -26,11 +27,11 @@ pub fn hold() {
     ];
     for (name, holds) in checks {
         if !holds {
-            println!("comparison: the cut Rust does not give document 01's values of {name}");
+            println!("comparison: the cut Rust does not give the documents' values of {name}");
             std::process::exit(1);
         }
     }
-    println!("comparison: the cut Rust gives document 01's values");
+    println!("comparison: the cut Rust gives the documents' values");
 }
 
 fn branches() -> bool {
@@ -55,7 +56,12 @@ fn areas() -> bool {
 }
 
 fn ladders() -> bool {
-    merge_even(&[], 0.0, 1.0, 2) == [0.0, 0.5, 1.0] && merge_even(&[], 3.0, 3.0, 4) == [3.0]
+    merge_even(&[], 0.0, 1.0, 2) == [0.0, 0.5, 1.0]
+        && merge_even(&[], 3.0, 3.0, 4) == [3.0]
+        // 02, N2: 11 steps round a turn fall short of it by the last place; no steps add the end
+        && 4.0 * H * 11.0 / 11.0 < 4.0 * H
+        && merge_even(&[], 0.0, 4.0 * H, 11)[11..] == [4.0 * H]
+        && merge_even(&[], 0.0, 3.0, 0) == [0.0, 3.0]
 }
 
 /// Period 4, cut 0: u 1 to 5 with positions A B C D A becomes u 0 to 4 with D A B C D.

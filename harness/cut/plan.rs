@@ -1,5 +1,6 @@
 //! What is cut out of the Rust source, and where items 1 to 5 of document 01, "Where port and
-//! Rust part", are put in. The old texts below are all of that source that this repository holds.
+//! Rust part", and the requests of document 02 that change the Rust are put in. The old texts below
+//! are all of that source that this repository holds.
 
 use crate::edit::{Change, Edit};
 
@@ -35,6 +36,7 @@ const ITEM_1: &str = "item 1 (sin, cos, tan)";
 const ITEM_2: &str = "item 2 (acos)";
 const ITEM_3: &str = "item 3 (min, max)";
 const ITEM_5: &str = "item 5 (repeats)";
+const REQUEST_2: &str = "02, N2 (the last rung is the end)";
 const COUNTS: &str = "counts of the branches met";
 const ONE_RING: &str = "the one-ring branch, which refusal 9 stands before";
 const PATHS: &str = "paths to other crates";
@@ -183,7 +185,20 @@ fn surfaces() -> Vec<Cut> {
             .replace(ITEM_2, ".acos()", ".arc_cosine()", 1)
             .order(1, 3),
         cut(KNOTS, "enum Axis"),
-        cut(KNOTS, "fn merge_even").order(0, 1),
+        cut(KNOTS, "fn merge_even").order(0, 1).replace(
+            REQUEST_2,
+            "all.dedup_by(|a, b| (*a - *b).abs() <= epsilon);",
+            "all.dedup_by(|a, b| (*a - *b).abs() <= epsilon);
+            if lo != hi {
+                if noted(Branch::EndAdded, all.len() == 1) {
+                    all.push(hi);
+                }
+                let last = all.len() - 1;
+                noted(Branch::LastRungSet, all[last] != hi);
+                all[last] = hi;
+            }",
+            1,
+        ),
         cut(FACE, "fn v_steps").order(0, 1),
         cut(FACE, "fn adaptive_steps").replace(ITEM_2, ".acos()", ".arc_cosine()", 1).order(0, 3),
         cut(FACE, "fn direction_steps")
@@ -249,6 +264,11 @@ fn regions() -> Vec<Cut> {
                 "let us = knots::merge_even(",
                 "noted(Branch::StepsAt3, nu == 3 || nv == 3);
                 noted(Branch::StepsAt256, nu == 256 || nv == 256);
+                let top = |lo: f64, hi: f64, n: usize| lo + (hi - lo) * n as f64 / n as f64;
+                let torus = domain.v_period.is_some();
+                noted(Branch::TorusShortInU, torus && top(u_lo, u_hi, nu) < u_hi);
+                noted(Branch::TorusShortInV, torus && top(v_lo, v_hi, nv) < v_hi);
+                noted(Branch::SphereBesidePole, !torus && top(v_lo, v_hi, nv) != v_hi);
                 let us = knots::merge_even(",
             ),
     ]

@@ -1,2 +1,3 @@
 pub mod Lengths
+pub mod Walls
 pub mod Demand

@@ -11,7 +11,7 @@ use Rattle.surfaces.specs.declared.options.Resolved.{Resolved}
 use Rattle.surfaces.specs.declared.surface.Surface.{Surface}
 use Rattle.surfaces.specs.Domains.{vPeriod}
 use Rattle.surfaces.specs.Points.{pointOf}
-use Rattle.surfaces.specs.Rungs.{rungs}
+use Rattle.surfaces.specs.Rungs.{keptDivisions, rungs}
 use Rattle.surfaces.specs.Steps.{vStepsOf}
 use Rattle.bands.specs.Corners.{Corner, Corners, us, vs}
 use Rattle.bands.specs.Strip.{Setting, ladder, heights}
@@ -43,14 +43,22 @@ ladderOn surface options = ladder rungs (stepsOn surface options)
 abbrev pub heightsOn : Surface → Resolved → Float → Float → List Float
 heightsOn surface options = heights rungs (stepsOn surface options)
 
--- a band on a surface: period is that of u
-abbrev pub settingOf : Frame → Surface → Resolved → Float → Bool → Setting Vec3
-settingOf frame surface options period sense = record {
+-- the v of a wall by the divisions kept: those that it had before 02, N2
+abbrev pub heightsKept : Surface → Resolved → Float → Float → List Float
+heightsKept surface options = heights keptDivisions (stepsOn surface options)
+
+-- a band on a surface, with given rungs: period is that of u
+abbrev pub settingWith : (Float → Float → ℕ → List Float) → Frame → Surface → Resolved → Float → Bool → Setting Vec3
+settingWith rungsBetween frame surface options period sense = record {
   period = period;
   vPeriod = vPeriod surface;
   sense = sense;
   same = same;
   pointAt = pointOf frame surface;
-  rungs = rungs;
+  rungs = rungsBetween;
   steps = stepsOn surface options;
 }
+
+-- with the rungs of `merge_even`
+abbrev pub settingOf : Frame → Surface → Resolved → Float → Bool → Setting Vec3
+settingOf = settingWith rungs

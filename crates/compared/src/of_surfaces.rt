@@ -1,11 +1,11 @@
 // The five kinds of surface, their domains, step counts and rungs.
 ghost use mathlib.Core.Path.{_≡_};
-ghost use Prim.Native.Nat.{_-_};
+ghost use Prim.Native.Nat.{_+_, _-_};
 ghost use lib.ListN.{length, drop};
 ghost use lib.Seq.{sets};
 ghost use Rattle.surfaces.specs.Domains.{domainOf};
 ghost use Rattle.surfaces.specs.Points as Points;
-ghost use Rattle.surfaces.specs.Rungs.{rungs, inner};
+ghost use Rattle.surfaces.specs.Rungs.{keptDivisions, rungs, EndsOn, EndWritten, inner};
 ghost use Rattle.surfaces.specs.Steps.{vStepsOf, directionStepsOf};
 ghost use Rattle.compared.specs.Points.{pointOf, frameOf};
 ghost use Rattle.compared.specs.Surfaces.{surfaceOf, axisOf, resolvedOf, lengthOf, limitsOf};
@@ -157,6 +157,7 @@ pub extern "C" fn compared_direction_steps(
 #[no_mangle]
 pub extern "C" fn compared_merge_even_steps(lo: f64, hi: f64, n: usize) -> usize
     ensures { λ r. ⌜ r ≡ length (rungs lo hi n) - 1 ⌝ }
+    ensures { λ r. ⌜ EndsOn lo hi r (rungs lo hi n) ⌝ }
 {
     surfaces::knots::merge_even_steps(lo, hi, n)
 }
@@ -164,6 +165,7 @@ pub extern "C" fn compared_merge_even_steps(lo: f64, hi: f64, n: usize) -> usize
 #[no_mangle]
 pub extern "C" fn compared_merge_even(lo: f64, hi: f64, n: usize, from: usize, out: &mut [f64])
     ensures { λ _. ⌜ now (out .exit) ≡ sets (now (out .entry)) 0 (drop from (rungs lo hi n)) ⌝ }
+    ensures { λ _. ⌜ EndWritten lo hi n from (now (out .exit)) ⌝ }
 {
     surfaces::knots::merge_even(lo, hi, n, from, out);
 }
@@ -172,6 +174,8 @@ pub extern "C" fn compared_merge_even(lo: f64, hi: f64, n: usize, from: usize, o
 pub extern "C" fn compared_inner_into(lo: f64, hi: f64, n: usize, out: &mut [f64]) -> usize
     ensures { λ r. ⌜ r ≡ length (inner (rungs lo hi n)) ⌝ }
     ensures { λ _. ⌜ now (out .exit) ≡ sets (now (out .entry)) 0 (inner (rungs lo hi n)) ⌝ }
+    ensures { λ r. ⌜ EndsOn lo hi (r + 1) (rungs lo hi n) ⌝ }
+    ensures { λ _. ⌜ now (out .exit) ≡ sets (now (out .entry)) 0 (inner (keptDivisions lo hi n)) ⌝ }
 {
     surfaces::knots::inner_into(lo, hi, n, out)
 }

@@ -3,7 +3,7 @@ ghost use mathlib.Core.Path.{_≡_};
 ghost use mathlib.Core.Bool.{cond};
 ghost use lib.ListN.{length};
 ghost use Rattle.numbers.specs.Constants.{plusZero};
-ghost use Rattle.whole.specs.Boundary.{usOf, vsOf, wholeCorners, xsOf, ysOf, zsOf, wholePositions, wholeArea, wholeRoom, lentTo};
+ghost use Rattle.whole.specs.Boundary.{CountEnds, usOf, vsOf, wholeCorners, xsOf, ysOf, zsOf, wholePositions, wholeArea, wholeRoom, lentTo, ReachesCorners};
 ghost use Rattle.compared.specs.Points.{frameOf};
 ghost use Rattle.compared.specs.Surfaces.{surfaceOf, resolvedOf};
 use super::of_numbers::Placement;
@@ -21,6 +21,7 @@ pub extern "C" fn compared_full_domain_count(
     segments: usize,
 ) -> usize
     ensures { λ n. ⌜ n ≡ length (wholeCorners (surfaceOf kind a b) (resolvedOf sag angle segments)) ⌝ }
+    ensures { λ n. ⌜ CountEnds (surfaceOf kind a b) (resolvedOf sag angle segments) n ⌝ }
 {
     let options = Resolved {
         sag,
@@ -45,6 +46,7 @@ pub extern "C" fn compared_full_domain_loop(
     y: &mut [f64],
     z: &mut [f64],
 ) -> f64
+    ensures { λ _. ⌜ ReachesCorners (surfaceOf kind a b) (resolvedOf sag angle segments) (wholeRoom (surfaceOf kind a b) (resolvedOf sag angle segments) (now (u .entry)) (now (v .entry)) (now (x .entry)) (now (y .entry)) (now (z .entry))) (now (u .exit)) (now (v .exit)) ⌝ }
     ensures { λ r. ⌜ r ≡ cond (wholeRoom (surfaceOf kind a b) (resolvedOf sag angle segments) (now (u .entry)) (now (v .entry)) (now (x .entry)) (now (y .entry)) (now (z .entry))) (wholeArea (surfaceOf kind a b) (resolvedOf sag angle segments)) plusZero ⌝ }
     ensures { λ _. ⌜ now (u .exit) ≡ lentTo (wholeRoom (surfaceOf kind a b) (resolvedOf sag angle segments) (now (u .entry)) (now (v .entry)) (now (x .entry)) (now (y .entry)) (now (z .entry))) (usOf (wholeCorners (surfaceOf kind a b) (resolvedOf sag angle segments))) (now (u .entry)) ⌝ }
     ensures { λ _. ⌜ now (v .exit) ≡ lentTo (wholeRoom (surfaceOf kind a b) (resolvedOf sag angle segments) (now (u .entry)) (now (v .entry)) (now (x .entry)) (now (y .entry)) (now (z .entry))) (vsOf (wholeCorners (surfaceOf kind a b) (resolvedOf sag angle segments))) (now (v .entry)) ⌝ }

@@ -1,11 +1,12 @@
 -- Every real of a result is a double: what is read from the record is one, and each rounded step gives one.
 use Prim.Native.Nat.{ℕ}
 use mathlib.Core.Path.{subst, sym}
+use mathlib.Core.Logic.{⊎-elim}
 use mathlib.Core.Bool.{Bool, true, false, cond, not, _&&_}
 use mathlib.Core.List.{List, [], _∷_}
-use lib.ListN.{drop}
 use lib.Ieee.{Float, nan, binary64, lt, le}
 use lib.Ieee.Fits.{add-fits, mul-fits}
+use Rattle.numbers.specs.Order.{minOf, maxOf}
 use Rattle.numbers.specs.Rounded.{_⊕_}
 use Rattle.numbers.specs.declared.math.Vec3.{Vec3}
 use Rattle.numbers.specs.declared.math.Frame.{Frame}
@@ -15,14 +16,14 @@ use Rattle.surfaces.specs.declared.surface.Surface.{Surface}
 use Rattle.surfaces.specs.declared.surface.Surface.the-variants.{Plane, Cylinder, Cone, Sphere, Torus}
 use Rattle.surfaces.specs.Points.{planeOf, raisedOf, sphereOf, torusOf, pointOf}
 use Rattle.surfaces.specs.Rungs.{division, rungs, inner}
-use Rattle.surfaces.proofs.knots.Rungs.{rungs-each}
+use Rattle.surfaces.proofs.knots.Rungs.{inner-each, rungs-each}
 use Rattle.loops.specs.Area.{areaOf}
 use Rattle.bands.specs.Band.{lift, lowerFirst, lowerRing, upperRing, stripOf, outer, holes}
 use Rattle.bands.specs.Corners.{Corner, Corners, moveU}
 use Rattle.bands.specs.Given.{Given}
 use Rattle.bands.specs.Strip.{Setting, ladder, heights, wall, strip}
 use Rattle.records.specs.Result.{All, and, Fits, FitsXyz}
-use Rattle.judgement.proofs.Each.{all-first, all-at, all-append, all-drop, all-dropLast, all-reverse, all-if, all-map, all-dropRepeats}
+use Rattle.judgement.proofs.Each.{all-first, all-at, all-append, all-reverse, all-if, all-map, all-dropRepeats}
 use Rattle.judgement.proofs.Rings.{EachGiven, pick-each, lower-each, holes-each}
 
 -- ---- surfaces
@@ -39,8 +40,13 @@ division-fits : (lo hi : Float) (n i : ℕ) → Fits (division lo hi n i)
 unfolding division
 division-fits lo hi n i = add-fits binary64 _ _
 
-pub rungs-fit : (lo hi : Float) (n : ℕ) → All Fits (rungs lo hi n)
-rungs-fit lo hi n = all-at (rungs lo hi n) nan (λ j h. let d = rungs-each lo hi n j h in subst Fits (sym (d .is)) (division-fits lo hi n (d .at)))
+-- each inner rung is a division, and each other one too or the upper end
+pub inner-fit : (lo hi : Float) (n : ℕ) → All Fits (inner (rungs lo hi n))
+inner-fit lo hi n = all-at (inner (rungs lo hi n)) nan (λ j h. let d = inner-each lo hi n j h in subst Fits (sym (d .is)) (division-fits lo hi n (d .at)))
+
+pub rungs-fit : (lo hi : Float) (n : ℕ) → Fits hi → All Fits (rungs lo hi n)
+rungs-fit lo hi n f =
+    all-at (rungs lo hi n) nan (λ j h. ⊎-elim (λ d. subst Fits (sym (d .is)) (division-fits lo hi n (d .at))) (λ e. subst Fits (sym e) f) (rungs-each lo hi n j h))
 
 -- ---- loops
 
@@ -70,11 +76,13 @@ lift-fits (Every p) withL withU meanL meanU v h = at-lift (withL && (not withU &
     at-lift true = add-fits binary64 v p
     at-lift false = h
 
-module _ (S : Setting Vec3) (points : (u v : Float) → FitsXyz (S .pointAt u v)) (ladders : (lo hi : Float) (n : ℕ) → All Fits (S .rungs lo hi n)) where
+module _ (S : Setting Vec3) (points : (u v : Float) → FitsXyz (S .pointAt u v)) (ladders : (lo hi : Float) (n : ℕ) → All Fits (inner (S .rungs lo hi n))) where
   heights-fit : (a b : Float) → All Fits (heights (S .rungs) (S .steps) a b)
-  unfolding heights ladder inner
+  unfolding heights ladder
   heights-fit a b =
-      let rungs-are = all-dropLast (drop 1 (S .rungs _ _ _)) (all-drop 1 (ladders _ _ _)) in
+      let lo = minOf a b in
+      let hi = maxOf a b in
+      let rungs-are = ladders lo hi (S .steps lo hi) in
       all-if (le a b) rungs-are (all-reverse rungs-are)
 
   wall-fits : (begin u : Float) → Fits u → {vs : List Float} → All Fits vs → FitsCorners (wall S begin u vs)

@@ -6,7 +6,7 @@ use mathlib.Core.List.{List, [], _∷_, map}
 use native.Mathlib.Omega.{arith}
 use lib.ListN.{length, length-map}
 use borrow.Author.Tests.{eqb-false}
-use lib.Ieee.{Float, binary64, eq}
+use lib.Ieee.{Float, binary64, neg, eq}
 use lib.Ieee.Bits.{ofBits-fits}
 use lib.Ieee.Fits.{add-fits, neg-fits}
 use Rattle.numbers.specs.Constants.{plusZero, H}
@@ -17,7 +17,8 @@ use Rattle.numbers.specs.declared.math.Frame.{Frame}
 use Rattle.surfaces.specs.declared.options.Resolved.{Resolved}
 use Rattle.surfaces.specs.declared.surface.Surface.{Surface}
 use Rattle.surfaces.specs.declared.surface.Surface.the-variants.{Plane, Cylinder, Cone, Sphere, Torus}
-use Rattle.surfaces.specs.Domains.{fullTurn, domainOf}
+use Rattle.surfaces.specs.Domains.{between, fullTurn, domainOf}
+use Rattle.surfaces.specs.Rungs.{inner}
 use Rattle.loops.specs.Area.{areaOf}
 use Rattle.loops.specs.Part.{raised}
 use Rattle.loops.proofs.Trailing.{repeats-fewer}
@@ -40,7 +41,7 @@ use Rattle.judgement.specs.Face.{frameIn, surfaceIn, optionsIn, uPeriodI
 use Rattle.judgement.specs.Face as Face
 use Rattle.judgement.specs.Later.{stripPoints}
 use Rattle.judgement.specs.Paths.{ResultLoop, signedArea, withArea, outerNumber, outerLoop, branchOf, rephasedHole, closedLoops, loopsFrom, wrappedLoops, wholeLoop, uvOf, xyzOf, pathIn, resultLoops, resultIn}
-use Rattle.judgement.proofs.Doubles.{FitsCorners, point-fits, rungs-fit, area-fits, outer-fits, holes-fit}
+use Rattle.judgement.proofs.Doubles.{FitsCorners, point-fits, inner-fit, rungs-fit, area-fits, outer-fits, holes-fit}
 use Rattle.judgement.proofs.Each.{all-getD, all-append, all-take, all-drop, all-dropLast, all-reverse, all-map}
 use Rattle.judgement.proofs.Loops.{corners-fit, loops-many, loops-total, loops-fit, given-fits, holes-many, holes-points}
 use Rattle.judgement.proofs.Sizes.{total, holes-few, holes-total, corners-few, all-short}
@@ -180,9 +181,9 @@ module _ (s : List ℕ) where
   unfolding settingIn
   points-fit u v = point-fits (frameIn s) (surfaceIn s) u v
 
-  ladders-fit : (lo hi : Float) (n : ℕ) → All Fits (settingIn s .rungs lo hi n)
+  ladders-fit : (lo hi : Float) (n : ℕ) → All Fits (inner (settingIn s .rungs lo hi n))
   unfolding settingIn
-  ladders-fit lo hi n = rungs-fit lo hi n
+  ladders-fit lo hi n = inner-fit lo hi n
 
 module _ (s : List ℕ) (loops-are : loops s ≤ maxLoops) (points-are : points s ≤ maxPoints) (strip-is : stripPoints s ≤ maxStrip) where
   outer-few : length (outer (settingIn s) (givenIn s)) ≤ maxStrip
@@ -225,14 +226,17 @@ sides-fit us vs ui vi hu hv iu iv =
 turn-fits : FitsInterval fullTurn
 turn-fits = record { lo = ofBits-fits binary64 _; hi = ofBits-fits binary64 _ }
 
+quarters-fit : FitsInterval (between (neg H) H)
+quarters-fit = record { lo = neg-fits binary64 H (ofBits-fits binary64 _); hi = ofBits-fits binary64 _ }
+
 whole-corners-fit : (s : Surface) (o : Resolved) → All FitsUv (wholeCorners s o)
 unfolding wholeCorners sidesOf uRungs vRungs domainOf
 whole-corners-fit Plane o = none
 whole-corners-fit (Cylinder R) o = none
 whole-corners-fit (Cone R a) o = none
 whole-corners-fit (Sphere R) o =
-    sides-fit _ _ _ _ (rungs-fit _ _ _) (rungs-fit _ _ _) turn-fits (record { lo = neg-fits binary64 H (ofBits-fits binary64 _); hi = ofBits-fits binary64 _ })
-whole-corners-fit (Torus R r) o = sides-fit _ _ _ _ (rungs-fit _ _ _) (rungs-fit _ _ _) turn-fits turn-fits
+    sides-fit _ _ _ _ (rungs-fit _ _ _ (turn-fits .hi)) (rungs-fit _ _ _ (quarters-fit .hi)) turn-fits quarters-fit
+whole-corners-fit (Torus R r) o = sides-fit _ _ _ _ (rungs-fit _ _ _ (turn-fits .hi)) (rungs-fit _ _ _ (turn-fits .hi)) turn-fits turn-fits
 
 position-fits : (s : Surface) (f : Frame) (c : Vec2) → FitsXyz (positionOf s f c)
 unfolding positionOf

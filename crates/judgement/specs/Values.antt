@@ -20,7 +20,7 @@ use Rattle.numbers.specs.declared.math.Vec3.{Vec3}
 use Rattle.lists.specs.Pieces.{pieces}
 use Rattle.surfaces.specs.Domains.{uPeriod, vPeriod, domainOf}
 use Rattle.surfaces.specs.Points.{raisedOf, sphereOf, pointOf}
-use Rattle.surfaces.specs.Rungs.{division, divisionsFrom, slackOf as rungSlack, near, keptAfter, rungs, inner}
+use Rattle.surfaces.specs.Rungs.{division, divisionsFrom, slackOf as rungSlack, near, keptAfter, keptDivisions, endedOn, rungs, inner}
 use Rattle.surfaces.specs.Segments.{sagAngle, angleStepOf, segmentsOf}
 use Rattle.surfaces.specs.Steps.{vStepsOf, directionStepsOf}
 use Rattle.loops.specs.Area.{areaOf, crossSum, crossAt}
@@ -206,7 +206,7 @@ pub record Answers : Type 0 where
   pub strip-refused : judge 61614 strip1025 ≡ refused 12 1025
 
 pub answers : Answers
-unfolding Call.judge verdict tooFewLent wrongByte wrongHeader tooManyLoops endsInCounts tooFewPoints tooManyPoints wrongLength badReal firstBadReal firstFrom number numberAt realAt start bytes real row holds headRange radius second uvRange uRange vRange range ofBits ofFields odd toBits le lt eq neg surfaceOf surfaceIn cornersFrom cornersIn loopsIn measuredIn wrapping loopIn openRing oneRing manyRings openSurface longStrip outerNumber outerLoop closedLoops pathIn resultLoops resultIn encode resultOf together uv xyz uvAt xyzAt rowAt sum counts parameters positions pieces only uPeriod vPeriod outerOf slackOf encloses every passing enclosesOther enclosesOthers enclosingOne lastLargest holesOf rephasedHole rephased moved shiftOf areaOf crossSum crossAt leastOf greatestOf middleOf absOf add sub mul div ofInt netWrap turnsCounted toSigned roundAway endsMeet same stripPoints settingIn givenIn optionsIn senseIn givenOf stripOf strip heights ladder lowerRing upperRing lowerFirst firstIsLower lift joined laid rising shifted leastU greatestU reseam hasStrip acrossSeam onStrip anyStraddles started startOf firstServing startFrom serves serve firstFor laterFor alignedU slidU beginsBackward standsAtTheCut trial beginRingAt alignCuts alignAt turnedOnto nearest firstLeast slideToCut unlessZero turned begun ringClosed meanOf sumOf onto stripShift straddles floorOf ne inner rungs keptAfter near rungSlack divisionsFrom division vStepsOf outer holes dropMerging dropSuccessive dropTrailing keptFrom cutBack loopsFrom wrappedLoops segmentsOf angleStepOf sagAngle ceilOf toUnsigned wholeLoop wholeCorners sidesOf sides uRungs vRungs uSteps vSteps directionStepsOf domainOf sincosOf
+unfolding Call.judge verdict tooFewLent wrongByte wrongHeader tooManyLoops endsInCounts tooFewPoints tooManyPoints wrongLength badReal firstBadReal firstFrom number numberAt realAt start bytes real row holds headRange radius second uvRange uRange vRange range ofBits ofFields odd toBits le lt eq neg surfaceOf surfaceIn cornersFrom cornersIn loopsIn measuredIn wrapping loopIn openRing oneRing manyRings openSurface longStrip outerNumber outerLoop closedLoops pathIn resultLoops resultIn encode resultOf together uv xyz uvAt xyzAt rowAt sum counts parameters positions pieces only uPeriod vPeriod outerOf slackOf encloses every passing enclosesOther enclosesOthers enclosingOne lastLargest holesOf rephasedHole rephased moved shiftOf areaOf crossSum crossAt leastOf greatestOf middleOf absOf add sub mul div ofInt netWrap turnsCounted toSigned roundAway endsMeet same stripPoints settingIn givenIn optionsIn senseIn givenOf stripOf strip heights ladder lowerRing upperRing lowerFirst firstIsLower lift joined laid rising shifted leastU greatestU reseam hasStrip acrossSeam onStrip anyStraddles started startOf firstServing startFrom serves serve firstFor laterFor alignedU slidU beginsBackward standsAtTheCut trial beginRingAt alignCuts alignAt turnedOnto nearest firstLeast slideToCut unlessZero turned begun ringClosed meanOf sumOf onto stripShift straddles floorOf ne inner rungs endedOn keptDivisions keptAfter near rungSlack divisionsFrom division vStepsOf outer holes dropMerging dropSuccessive dropTrailing keptFrom cutBack loopsFrom wrappedLoops segmentsOf angleStepOf sagAngle ceilOf toUnsigned wholeLoop wholeCorners sidesOf sides uRungs vRungs uSteps vSteps directionStepsOf domainOf sincosOf
 answers = record {
   triangle-closed = refl;
   wide-closed = refl;
@@ -241,5 +241,5 @@ band-steps = refl
 
 -- the sphere's first corner is the pole below, to which the axis of the record points away
 pub sphere-pole : same (getD (resultIn bareSphere .positions) 0 origin) (record { x = 0·0; y = 0·0; z = -1·0 }) ≡ true
-unfolding resultIn resultOf resultLoops together wholeLoop wholeCorners sidesOf sides uRungs vRungs uSteps vSteps directionStepsOf segmentsOf angleStepOf sagAngle rungs keptAfter near rungSlack divisionsFrom division domainOf uPeriod vPeriod positionOf wrapOf pointOf sphereOf raisedOf polarOf frameIn frameOf surfaceIn surfaceOf optionsIn normalizedOr directionOf lengthOf sqrtOf perpendicularOf leastAxis sincosOf realAt number numberAt bytes real row same absOf ceilOf toUnsigned add sub mul div neg lt le eq ofBits ofFields odd toBits ofInt
+unfolding resultIn resultOf resultLoops together wholeLoop wholeCorners sidesOf sides uRungs vRungs uSteps vSteps directionStepsOf segmentsOf angleStepOf sagAngle rungs endedOn keptDivisions keptAfter near rungSlack divisionsFrom division domainOf uPeriod vPeriod positionOf wrapOf pointOf sphereOf raisedOf polarOf frameIn frameOf surfaceIn surfaceOf optionsIn normalizedOr directionOf lengthOf sqrtOf perpendicularOf leastAxis sincosOf realAt number numberAt bytes real row same absOf ceilOf toUnsigned add sub mul div neg lt le eq ofBits ofFields odd toBits ofInt ne
 sphere-pole = refl

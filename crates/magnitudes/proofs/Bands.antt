@@ -104,7 +104,8 @@ module _ (s : List ℕ) (a : Accepted s) (H B : ℕ) (given : H ≤ Million) (ro
       let low = min-within R x y p q in
       let wide = sub-within R R hi lo (held-small (R + R) (omega arith)) (max-within R x y p q) low in
       let many : (R + R) * max n 1 < 2 ^ 53 = lt-of-le-of-lt (mul-le-mul (le-two given) (le-steps few)) (lit< tt) in
-      let rungs-are = rungs-each-within R (R + R) n lo hi low wide (omega arith) many (omega arith) in
+      let high = within-more R (R + (R + R)) hi (omega arith) (max-within R x y p q) in
+      let rungs-are = rungs-each-within R (R + R) n lo hi low wide (omega arith) many (omega arith) high in
       let inner-are = all-so (λ v w. within-more (R + (R + R)) B v (omega arith) w) (all-dropLast (drop 1 (rungs lo hi n)) (all-drop 1 rungs-are)) in
       all-if (le x y) inner-are (all-reverse inner-are)
     where

@@ -221,5 +221,6 @@ module _ (j k : ℕ) (small : j + k ≤ 800) (us vs : List Float) (hu : All (Wit
 
 -- ---- the rungs between two bounded reals
 
-pub rungs-each-within : (A D n : ℕ) (lo hi : Float) → Within A lo → Within D (hi ⊖ lo) → max n 1 < 2 ^ 53 → D * max n 1 < 2 ^ 53 → A + D < 2 ^ 53 → All (Within (A + D)) (rungs lo hi n)
-rungs-each-within A D n lo hi low wide few short most = all-at (rungs lo hi n) nan (rungs-within A D n lo hi low wide few short most)
+pub rungs-each-within : (A D n : ℕ) (lo hi : Float) → Within A lo → Within D (hi ⊖ lo) → max n 1 < 2 ^ 53 → D * max n 1 < 2 ^ 53 → A + D < 2 ^ 53
+    → Within (A + D) hi → All (Within (A + D)) (rungs lo hi n)
+rungs-each-within A D n lo hi low wide few short most high = all-at (rungs lo hi n) nan (rungs-within A D n lo hi low wide few short most high)

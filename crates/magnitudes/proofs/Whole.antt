@@ -50,6 +50,7 @@ quarter-within = lit≤ tt
 rungs-between : (i : Interval) → Ends i → (n : ℕ) → n ≤ 256 → All (Within 21) (rungs (i .lo) (i .hi) n)
 rungs-between i e n h =
     rungs-each-within 7 14 n (i .lo) (i .hi) (e .lo) (sub-within 7 7 (i .hi) (i .lo) (held-small 14 (lit< tt)) (e .hi) (e .lo)) (omega arith) (omega arith) (lit< tt)
+    (within-more 7 21 (i .hi) (lit≤ tt) (e .hi))
 
 -- ---- the corners
 

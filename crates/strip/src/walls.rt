@@ -3,7 +3,7 @@ ghost use mathlib.Core.Path.{_≡_};
 ghost use lib.ListN.{length};
 ghost use lib.Seq.{sets};
 ghost use Rattle.lists.specs.Placed.{placed};
-ghost use Rattle.bands.specs.Columns.{ladderOn, heightsOn};
+ghost use Rattle.bands.specs.Columns.{ladderOn, heightsOn, heightsKept};
 ghost use Rattle.strip.specs.Walls.{xsAt, ysAt, zsAt};
 use numbers::math::Frame;
 use numbers::math::Vec2;
@@ -17,16 +17,17 @@ use surfaces::options::Resolved;
 use surfaces::steps::v_steps;
 use surfaces::surface::Surface;
 
-// How many corners a wall has between the two rings.
+// How many corners a wall has between the two rings. 02, N2 changes neither them nor their heights.
 pub fn wall_count(surface: Surface, options: Resolved, lower: f64, upper: f64) -> usize
     ensures { λ r. ⌜ r ≡ length (heightsOn surface options lower upper) ⌝ }
+    ensures { λ r. ⌜ r ≡ length (heightsKept surface options lower upper) ⌝ }
 {
     let lo = min(lower, upper);
     let hi = max(lower, upper);
     inner_count(lo, hi, v_steps(surface, lo, hi, options))
 }
 
-// The rungs from the lesser to the greater v, as many as there is room for.
+// The inner rungs from the lesser to the greater v, as many as there is room for.
 fn ladder_into(dst: &mut [f64], surface: Surface, options: Resolved, a: f64, b: f64)
     ensures { λ _. ⌜ now (dst .exit) ≡ sets (now (dst .entry)) 0 (ladderOn surface options a b) ⌝ }
 {
@@ -40,6 +41,7 @@ fn ladder_into(dst: &mut [f64], surface: Surface, options: Resolved, a: f64, b: 
 // heights to the bit.
 pub fn heights_into(dst: &mut [f64], surface: Surface, options: Resolved, lower: f64, upper: f64)
     ensures { λ _. ⌜ now (dst .exit) ≡ placed 0 (heightsOn surface options lower upper) (now (dst .entry)) ⌝ }
+    ensures { λ _. ⌜ now (dst .exit) ≡ placed 0 (heightsKept surface options lower upper) (now (dst .entry)) ⌝ }
 {
     let n = wall_count(surface, options, lower, upper);
     if dst.len() < n {

@@ -1,11 +1,13 @@
--- The rungs of `merge_even` (`knots.rs`) for no breaks (01, item 4): the even divisions of a stretch, less those too near the one kept before. Callers use the laws of proofs/knots.
+-- The rungs of `merge_even` (`knots.rs`) for no breaks (01, item 4): the even divisions of a stretch, less those too near the one kept before; where the two
+-- ends differ, ended on the upper one (02, N2). Callers use the laws of proofs/knots.
 -- The Rust sorts the divisions first. Where lo ≤ hi, where lo, hi and hi - lo are finite and n is at most 2 ^ 53, that changes nothing (proofs/knots/Rising.antt); 01 leaves the rest free.
-use Prim.Native.Nat.{ℕ, zero, suc, _-_, max}
-use mathlib.Core.Bool.{Bool, cond}
-use mathlib.Core.List.{List, [], _∷_, dropLast}
+use Prim.Native.Nat.{ℕ, zero, suc, _+_, _-_, _<_, max}
+use mathlib.Core.Path.{_≡_}
+use mathlib.Core.Bool.{Bool, true, cond}
+use mathlib.Core.List.{List, [], _∷_, _++_, dropLast}
 use lib.Dec.{leb}
-use lib.ListN.{drop, set}
-use lib.Ieee.{Float, binary64, ofBits, le}
+use lib.ListN.{length, getD, drop, set}
+use lib.Ieee.{Float, nan, binary64, ofBits, le, ne}
 use Rattle.numbers.specs.Rounded.{_⊕_, _⊖_, _⊗_, _⊘_, count}
 use Rattle.numbers.specs.Order.{absOf}
 
@@ -45,8 +47,26 @@ abbrev pub kept : Float → List Float → List Float
 kept slack [] = []
 kept slack (x ∷ xs) = x ∷ keptAfter slack x xs
 
+unfoldable pub keptDivisions : Float → Float → ℕ → List Float
+keptDivisions lo hi n = kept (slackOf lo hi) (divisions lo hi n)
+
+-- 02, N2: "the last rung kept is set to it, or it is added after a lone lower bound"
+unfoldable pub endedOn : Float → List Float → List Float
+endedOn hi ks = cond (leb (length ks) 1) ks (dropLast ks) ++ (hi ∷ [])
+
+-- 02, N2: "`merge_even` now ends on its upper bound itself, whenever the bounds differ", as numbers
 unfoldable pub rungs : Float → Float → ℕ → List Float
-rungs lo hi n = kept (slackOf lo hi) (divisions lo hi n)
+rungs lo hi n =
+    let ks = keptDivisions lo hi n in
+    cond (ne lo hi) (endedOn hi ks) ks
+
+-- where lo and hi differ, xs is k reals and then hi itself, to the bit
+abbrev pub EndsOn : Float → Float → ℕ → List Float → Type 0
+EndsOn lo hi k xs = ne lo hi ≡ true → (ys : List Float) × (length ys ≡ k) × (xs ≡ ys ++ (hi ∷ []))
+
+-- where they differ: of a slice whose first place takes the rung of number `from`, the place that takes the last one holds hi, if there is such a place
+abbrev pub EndWritten : Float → Float → ℕ → ℕ → List Float → Type 0
+EndWritten lo hi n from out = ne lo hi ≡ true → (k : ℕ) → from + suc k ≡ length (rungs lo hi n) → k < length out → getD out k nan ≡ hi
 
 -- all but the first and the last
 unfoldable pub inner : List Float → List Float

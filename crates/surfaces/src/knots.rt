@@ -1,10 +1,10 @@
 // The rungs of `merge_even` of `knots.rs`, for surfaces that have no breaks. There is no list of
 // them: they are counted as they come, and those asked for are written to a lent slice.
 ghost use mathlib.Core.Path.{_≡_};
-ghost use Prim.Native.Nat.{_-_};
+ghost use Prim.Native.Nat.{_+_, _-_};
 ghost use lib.ListN.{length, drop};
 ghost use lib.Seq.{sets};
-ghost use Rattle.surfaces.specs.Rungs.{division, slackOf, near, rungs, inner, placed};
+ghost use Rattle.surfaces.specs.Rungs.{division, slackOf, near, keptDivisions, rungs, EndsOn, EndWritten, inner, placed};
 use super::options::larger;
 use numbers::order::abs;
 
@@ -29,9 +29,10 @@ fn near(slack: f64, x: f64, last: f64) -> bool
     abs(x - last) <= slack
 }
 
-// How many rungs there are beside the first.
+// How many rungs there are beside the first: at least one where the bounds differ.
 pub fn merge_even_steps(lo: f64, hi: f64, n: usize) -> usize
     ensures { λ r. ⌜ r ≡ length (rungs lo hi n) - 1 ⌝ }
+    ensures { λ r. ⌜ EndsOn lo hi r (rungs lo hi n) ⌝ }
 {
     let e = slack(lo, hi);
     let mut last = division(lo, hi, n, 0);
@@ -44,6 +45,9 @@ pub fn merge_even_steps(lo: f64, hi: f64, n: usize) -> usize
             k += 1;
             last = x;
         }
+    }
+    if lo != hi {
+        return larger(k, 1);
     }
     k
 }
@@ -60,9 +64,11 @@ fn put(s: &mut [f64], from: usize, k: usize, x: f64)
     }
 }
 
-// Writes the rungs from that of number `from` on, as many as there is room for.
+// Writes the rungs from that of number `from` on, as many as there is room for. Where the bounds
+// differ they end on the upper one itself.
 pub fn merge_even(lo: f64, hi: f64, n: usize, from: usize, out: &mut [f64])
     ensures { λ _. ⌜ now (out .exit) ≡ sets (now (out .entry)) 0 (drop from (rungs lo hi n)) ⌝ }
+    ensures { λ _. ⌜ EndWritten lo hi n from (now (out .exit)) ⌝ }
 {
     let e = slack(lo, hi);
     let mut last = division(lo, hi, n, 0);
@@ -78,6 +84,9 @@ pub fn merge_even(lo: f64, hi: f64, n: usize, from: usize, out: &mut [f64])
             last = x;
         }
     }
+    if lo != hi {
+        put(out, from, larger(k, 1), hi);
+    }
 }
 
 fn less_one(k: usize) -> usize
@@ -86,18 +95,22 @@ fn less_one(k: usize) -> usize
     if k > 0 { k - 1 } else { 0 }
 }
 
-// How many rungs there are beside the first and the last.
+// How many rungs there are beside the first and the last: as many as of the divisions kept.
 pub fn inner_count(lo: f64, hi: f64, n: usize) -> usize
     ensures { λ r. ⌜ r ≡ length (inner (rungs lo hi n)) ⌝ }
+    ensures { λ r. ⌜ EndsOn lo hi (r + 1) (rungs lo hi n) ⌝ }
+    ensures { λ r. ⌜ r ≡ length (inner (keptDivisions lo hi n)) ⌝ }
 {
     less_one(merge_even_steps(lo, hi, n))
 }
 
 // Writes the rungs between the first and the last, as many as there is room for, and answers how
-// many there are.
+// many there are. They are those of the divisions kept: the end that is set is not among them.
 pub fn inner_into(lo: f64, hi: f64, n: usize, out: &mut [f64]) -> usize
     ensures { λ r. ⌜ r ≡ length (inner (rungs lo hi n)) ⌝ }
     ensures { λ _. ⌜ now (out .exit) ≡ sets (now (out .entry)) 0 (inner (rungs lo hi n)) ⌝ }
+    ensures { λ r. ⌜ EndsOn lo hi (r + 1) (rungs lo hi n) ⌝ }
+    ensures { λ _. ⌜ now (out .exit) ≡ sets (now (out .entry)) 0 (inner (keptDivisions lo hi n)) ⌝ }
 {
     let m = inner_count(lo, hi, n);
     if m < out.len() {

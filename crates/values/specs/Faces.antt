@@ -17,7 +17,7 @@ use Rattle.numbers.specs.Vectors.{lengthOf, directionOf, normalizedOr, leastAxi
 use Rattle.lists.specs.Pieces.{pieces}
 use Rattle.surfaces.specs.Domains.{uPeriod, vPeriod}
 use Rattle.surfaces.specs.Points.{raisedOf, torusOf, pointOf}
-use Rattle.surfaces.specs.Rungs.{division, divisionsFrom, slackOf as rungSlack, near, keptAfter, rungs, inner}
+use Rattle.surfaces.specs.Rungs.{division, divisionsFrom, slackOf as rungSlack, near, keptAfter, keptDivisions, endedOn, rungs, inner}
 use Rattle.surfaces.specs.Segments.{sagAngle, angleStepOf, segmentsOf}
 use Rattle.surfaces.specs.Steps.{vStepsOf}
 use Rattle.loops.specs.Area.{areaOf, crossSum, crossAt}
@@ -146,7 +146,7 @@ pub record Faces : Type 0 where
   pub exchanged-closed : judge 61614 exchanged ≡ closed exchangedWritten
 
 pub faces : Faces
-unfolding Call.judge verdict tooFewLent wrongByte wrongHeader tooManyLoops endsInCounts tooFewPoints tooManyPoints wrongLength badReal firstBadReal firstFrom number numberAt realAt start bytes real row holds headRange radius second uvRange uRange vRange range ofBits ofFields odd toBits le lt eq ne neg add sub mul div ofInt toSigned toUnsigned absOf roundAway floorOf ceilOf sincosOf sqrtOf lengthOf directionOf normalizedOr leastAxis perpendicularOf frameOf polarOf frameIn surfaceOf surfaceIn optionsIn senseIn cornersFrom cornersIn loopsIn measuredIn wrapping settingIn givenIn loopIn openRing oneRing manyRings openSurface stripPoints longStrip loopsFrom wrappedLoops pathIn resultLoops resultIn encode resultOf together uv xyz uvAt xyzAt rowAt sum counts parameters positions pieces only uPeriod vPeriod areaOf crossSum crossAt leastOf greatestOf netWrap turnsCounted endsMeet same givenOf stripOf strip heights ladder lowerRing upperRing lowerFirst firstIsLower lift joined laid rising shifted leastU greatestU reseam hasStrip acrossSeam onStrip anyStraddles started startOf firstServing startFrom serves serve firstFor laterFor alignedU slidU beginsBackward standsAtTheCut trial beginRingAt alignCuts alignAt turnedOnto nearest firstLeast slideToCut unlessZero turned begun ringClosed meanOf sumOf onto stripShift straddles inner rungs keptAfter near rungSlack divisionsFrom division vStepsOf segmentsOf angleStepOf sagAngle raisedOf torusOf pointOf outer holes dropMerging dropSuccessive dropTrailing keptFrom cutBack
+unfolding Call.judge verdict tooFewLent wrongByte wrongHeader tooManyLoops endsInCounts tooFewPoints tooManyPoints wrongLength badReal firstBadReal firstFrom number numberAt realAt start bytes real row holds headRange radius second uvRange uRange vRange range ofBits ofFields odd toBits le lt eq ne neg add sub mul div ofInt toSigned toUnsigned absOf roundAway floorOf ceilOf sincosOf sqrtOf lengthOf directionOf normalizedOr leastAxis perpendicularOf frameOf polarOf frameIn surfaceOf surfaceIn optionsIn senseIn cornersFrom cornersIn loopsIn measuredIn wrapping settingIn givenIn loopIn openRing oneRing manyRings openSurface stripPoints longStrip loopsFrom wrappedLoops pathIn resultLoops resultIn encode resultOf together uv xyz uvAt xyzAt rowAt sum counts parameters positions pieces only uPeriod vPeriod areaOf crossSum crossAt leastOf greatestOf netWrap turnsCounted endsMeet same givenOf stripOf strip heights ladder lowerRing upperRing lowerFirst firstIsLower lift joined laid rising shifted leastU greatestU reseam hasStrip acrossSeam onStrip anyStraddles started startOf firstServing startFrom serves serve firstFor laterFor alignedU slidU beginsBackward standsAtTheCut trial beginRingAt alignCuts alignAt turnedOnto nearest firstLeast slideToCut unlessZero turned begun ringClosed meanOf sumOf onto stripShift straddles inner rungs endedOn keptDivisions keptAfter near rungSlack divisionsFrom division vStepsOf segmentsOf angleStepOf sagAngle raisedOf torusOf pointOf outer holes dropMerging dropSuccessive dropTrailing keptFrom cutBack
 faces = record {
   third = refl;
   two-thirds = refl;

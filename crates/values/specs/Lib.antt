@@ -1,3 +1,4 @@
 pub mod Starred
 pub mod Faces
+pub mod WholeSurfaces
 pub mod Meanings

@@ -1,6 +1,7 @@
--- What is stated of the definitions of `numbers` and `surfaces` beyond the values that document 01 stars: listed here so that a proof of it cannot be deleted alone.
+-- What is stated of the definitions of `numbers`, `surfaces`, `whole` and `bands` beyond the values that document 01 stars: listed here so that a proof of it cannot be deleted alone.
 use Prim.Native.Nat.{ℕ, _^_, _≤_}
 use mathlib.Core.Path.{_≡_}
+use mathlib.Core.Bool.{Bool, true}
 use lib.Dec.{T}
 use lib.Ieee.{Float, le}
 use Rattle.numbers.specs.WholeNumbers.{RoundMeans, FloorMeans, CeilMeans}
@@ -8,8 +9,16 @@ use Rattle.numbers.specs.Nearest.{SqrtMeans}
 use Rattle.numbers.specs.Multiples.{ExactMultiples}
 use Rattle.numbers.specs.Units.{UnitsExact, UnitsOrder, UnitsSum, RoundingError, SumError}
 use Rattle.numbers.specs.Within.{Within}
-use Rattle.surfaces.specs.Rungs.{divisions, slackOf, kept, rungs}
-use Rattle.surfaces.specs.Sorting.{sorted}
+use Rattle.numbers.specs.declared.math.Frame.{Frame}
+use Rattle.numbers.specs.declared.math.Vec3.{Vec3}
+use Rattle.surfaces.specs.Rungs.{divisions, slackOf, kept, keptDivisions}
+use Rattle.surfaces.specs.Sorting.{sorted, rising}
+use Rattle.surfaces.specs.declared.options.Resolved.{Resolved}
+use Rattle.surfaces.specs.declared.surface.Surface.{Surface}
+use Rattle.whole.specs.Boundary.{isWhole, uRungs, vRungs}
+use Rattle.bands.specs.Band.{outer}
+use Rattle.bands.specs.Columns.{settingOf, settingWith}
+use Rattle.bands.specs.Given.{Given}
 
 pub record Meanings : Type 0 where
   -- the whole number that the name says, by its distance
@@ -28,4 +37,9 @@ pub record Meanings : Type 0 where
   pub sum-error : SumError
   -- The Rust sorts the divisions of `merge_even` before it drops those that are near. Up from one bound to another it changes nothing, rounding included.
   pub merge-even : (lo hi : Float) (n : ℕ) → Within (2 ^ 1000) lo → Within (2 ^ 1000) hi → T (le lo hi) → n ≤ 2 ^ 53
-      → kept (slackOf lo hi) (sorted (divisions lo hi n)) ≡ rungs lo hi n
+      → kept (slackOf lo hi) (sorted (divisions lo hi n)) ≡ keptDivisions lo hi n
+  -- With its end set (02, N2) too, on a whole surface, no rung of either direction is below the one before it.
+  pub whole-rungs : (surface : Surface) (options : Resolved) → isWhole surface ≡ true → T (rising (uRungs surface options)) × T (rising (vRungs surface options))
+  -- 02, N2, moves no band: with the divisions kept for its rungs, as before, each has the same outer loop. The holes take no rung.
+  pub bands : (frame : Frame) (surface : Surface) (options : Resolved) (period : Float) (sense : Bool) (given : Given Vec3)
+      → outer (settingOf frame surface options period sense) given ≡ outer (settingWith keptDivisions frame surface options period sense) given

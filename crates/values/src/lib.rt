@@ -1,3 +1,3 @@
 // The values that document 01 marks with a star, proved of the definitions: specs/Starred.antt. Bands
-// from bytes to bytes: specs/Faces.antt. The meanings of the functions of `numbers` and `surfaces`:
-// specs/Meanings.antt. No function.
+// from bytes to bytes: specs/Faces.antt. Step counts of whole surfaces: specs/WholeSurfaces.antt. What
+// is meant by definitions of other crates: specs/Meanings.antt. No function.

@@ -2,3 +2,8 @@ pub mod Sides
 pub mod Positions
 pub mod Lent
 pub mod Meaning
+pub mod Columns
+pub mod Rungs
+pub mod Corners
+pub mod Counts
+pub mod Rising

@@ -1,11 +1,12 @@
 -- 01, "Whole surfaces": "Sphere and torus only; each direction has 3 to 256 steps, so at most 1,024 corners". The corners stand in the order of
 -- `full_domain_loop` of face.rs: four sides, of which each leaves its last corner to the next.
-use Prim.Native.Nat.{ℕ, min, max}
+use Prim.Native.Nat.{ℕ, _+_, _-_, _*_, _<_, min, max}
+use mathlib.Core.Path.{_≡_}
 use mathlib.Core.Bool.{Bool, true, false, cond, _&&_}
 use mathlib.Core.List.{List, [], _∷_, _++_, map, reverse, dropLast}
 use lib.Dec.{leb}
-use lib.ListN.{length, drop}
-use lib.Ieee.{Float, le}
+use lib.ListN.{length, getD, take, drop}
+use lib.Ieee.{Float, nan, le, ne}
 use Rattle.numbers.specs.Constants.{half}
 use Rattle.numbers.specs.Rounded.{_⊕_, _⊗_}
 use Rattle.numbers.specs.declared.math.Frame.{Frame}
@@ -15,13 +16,14 @@ use Rattle.numbers.specs.declared.math.Vec3.{Vec3}
 use Rattle.lists.specs.Placed.{placed}
 use Rattle.surfaces.specs.declared.options.Resolved.{Resolved}
 use Rattle.surfaces.specs.declared.steps.Axis.the-variants.{U, «V»}
+use Rattle.surfaces.specs.declared.surface.Domain.{Domain}
 use Rattle.surfaces.specs.declared.surface.Period.{Period}
 use Rattle.surfaces.specs.declared.surface.Period.the-variants.{Every, None}
 use Rattle.surfaces.specs.declared.surface.Surface.{Surface}
 use Rattle.surfaces.specs.declared.surface.Surface.the-variants.{Plane, Cylinder, Cone, Sphere, Torus}
 use Rattle.surfaces.specs.Domains.{domainOf}
 use Rattle.surfaces.specs.Points.{pointOf}
-use Rattle.surfaces.specs.Rungs.{rungs}
+use Rattle.surfaces.specs.Rungs.{rungs, EndsOn}
 use Rattle.surfaces.specs.Steps.{directionStepsOf}
 use Rattle.loops.specs.Area.{areaOf}
 
@@ -52,6 +54,17 @@ uRungs s o = rungs (domainOf s .u .lo) (domainOf s .u .hi) (uSteps s o)
 
 unfoldable pub vRungs : Surface → Resolved → List Float
 vRungs s o = rungs (domainOf s .v .lo) (domainOf s .v .hi) (vSteps s o)
+
+-- 02, N2, "Every caller's promise says so": k rungs of a direction, and then its upper bound
+abbrev pub UEnds : Surface → Resolved → ℕ → Type 0
+UEnds s o k = EndsOn (domainOf s .u .lo) (domainOf s .u .hi) k (uRungs s o)
+
+abbrev pub VEnds : Surface → Resolved → ℕ → Type 0
+VEnds s o k = EndsOn (domainOf s .v .lo) (domainOf s .v .hi) k (vRungs s o)
+
+-- of a sphere or a torus, n corners are those of k rungs and then the bound in u, and of m rungs and then the bound in v, each read twice
+abbrev pub CountEnds : Surface → Resolved → ℕ → Type 0
+CountEnds s o n = isWhole s ≡ true → (k : ℕ) × (m : ℕ) × (n ≡ 2 * (k + m)) × UEnds s o k × VEnds s o m
 
 abbrev pub corner : Float → Float → Vec2
 corner a b = record { u = a; v = b }
@@ -106,6 +119,31 @@ wholePositions s f o = map (positionOf s f) (wholeCorners s o)
 unfoldable pub wholeArea : Surface → Resolved → Float
 wholeArea s o = areaOf (usOf (wholeCorners s o)) (vsOf (wholeCorners s o))
 
+-- ---- the ends of both directions, among the corners
+
+-- 02, N2, "Every caller's promise says so": in the u and the v of the corners, as far as there is room, the third side begins with the upper bound of u and the
+-- fourth with that of v, the rungs of each being read backward there
+abbrev pub UColumnEnds : Surface → Resolved → List Float → Type 0
+UColumnEnds s o us =
+    ne (domainOf s .u .lo) (domainOf s .u .hi) ≡ true
+    → (k : ℕ) → k ≡ length (uRungs s o) - 1 + (length (vRungs s o) - 1) → k < length us → getD us k nan ≡ domainOf s .u .hi
+
+abbrev pub VColumnEnds : Surface → Resolved → List Float → Type 0
+VColumnEnds s o vs =
+    ne (domainOf s .v .lo) (domainOf s .v .hi) ≡ true
+    → (k : ℕ) → k ≡ 2 * (length (uRungs s o) - 1) + (length (vRungs s o) - 1) → k < length vs → getD vs k nan ≡ domainOf s .v .hi
+
+-- a and b stand at one place of two lists
+abbrev pub Stands : Float → Float → List Float → List Float → Type 0
+Stands a b us vs = (k : ℕ) × (k < length us) × (k < length vs) × (getD us k nan ≡ a) × (getD vs k nan ≡ b)
+
+-- 02, N2, of the u and the v of corners: the four corners of the domain are among them, to the bit
+pub record FourCorners (d : Domain) (us vs : List Float) : Type 0 where
+  pub low-low : Stands (d .u .lo) (d .v .lo) us vs
+  pub high-low : Stands (d .u .hi) (d .v .lo) us vs
+  pub high-high : Stands (d .u .hi) (d .v .hi) us vs
+  pub low-high : Stands (d .u .lo) (d .v .hi) us vs
+
 -- ---- what is written to five lent lists
 
 -- whether each has room for n
@@ -119,3 +157,7 @@ wholeRoom s o us vs xs ys zs = roomInAll (length (wholeCorners s o)) us vs xs ys
 -- w over the front of d, if there is room in all
 abbrev pub lentTo : Bool → List Float → List Float → List Float
 lentTo room w d = cond room (placed 0 w d) d
+
+-- 02, N2, of what is written: of a sphere or a torus, if there is room, the front of both lists has the four corners
+abbrev pub ReachesCorners : Surface → Resolved → Bool → List Float → List Float → Type 0
+ReachesCorners s o room us vs = isWhole s ≡ true → room ≡ true → FourCorners (domainOf s) (take (length (wholeCorners s o)) us) (take (length (wholeCorners s o)) vs)

@@ -10,7 +10,7 @@ ghost use lib.Seq.{sets};
 ghost use Rattle.numbers.specs.Constants.{plusZero};
 ghost use Rattle.loops.specs.Area.{areaOf};
 ghost use Rattle.loops.specs.Part.{partOf};
-ghost use Rattle.whole.specs.Boundary.{isWhole, clamped, centre, wrapOf, uSteps, vSteps, uRungs, vRungs, sidesOf, usOf, vsOf, wholeCorners, corner, positionOf, positionsOf, xsOf, ysOf, zsOf, wholePositions, wholeArea, roomInAll, wholeRoom, lentTo};
+ghost use Rattle.whole.specs.Boundary.{isWhole, clamped, centre, wrapOf, uSteps, vSteps, uRungs, vRungs, UEnds, VEnds, CountEnds, sidesOf, usOf, vsOf, wholeCorners, corner, positionOf, positionsOf, xsOf, ysOf, zsOf, wholePositions, wholeArea, roomInAll, UColumnEnds, VColumnEnds, wholeRoom, lentTo, ReachesCorners};
 use loops::area::signed_area;
 use loops::part::part;
 use loops::stretch::put_backward;
@@ -97,6 +97,7 @@ fn v_steps(surface: Surface, options: Resolved) -> usize
 // How many corners a side has in the direction of u, less its last one, which begins the next side.
 fn u_count(surface: Surface, options: Resolved) -> usize
     ensures { λ r. ⌜ (r ≡ length (uRungs surface options) - 1) × (r ≤ 256) ⌝ }
+    ensures { λ r. ⌜ UEnds surface options r ⌝ }
 {
     let d = surface.domain();
     let u = d.u;
@@ -105,15 +106,17 @@ fn u_count(surface: Surface, options: Resolved) -> usize
 
 fn v_count(surface: Surface, options: Resolved) -> usize
     ensures { λ r. ⌜ (r ≡ length (vRungs surface options) - 1) × (r ≤ 256) ⌝ }
+    ensures { λ r. ⌜ VEnds surface options r ⌝ }
 {
     let d = surface.domain();
     let v = d.v;
     merge_even_steps(v.lo, v.hi, v_steps(surface, options))
 }
 
-// How many corners the boundary has: at most 1,024, and none for the kinds that have no whole.
+// How many corners the boundary has, and none for the kinds that have no whole.
 pub fn full_domain_count(surface: Surface, options: Resolved) -> usize
     ensures { λ r. ⌜ r ≡ length (wholeCorners surface options) ⌝ }
+    ensures { λ r. ⌜ CountEnds surface options r ⌝ }
 {
     if is_whole(surface) {
         return 2 * (u_count(surface, options) + v_count(surface, options));
@@ -148,6 +151,7 @@ fn put_v(vs: &[f64], su: usize, sv: usize, range: Interval, out: &mut [f64])
 fn u_of_corners(surface: Surface, options: Resolved, su: usize, sv: usize, out: &mut [f64])
     requires { ⌜ (su ≡ length (uRungs surface options) - 1) × (sv ≡ length (vRungs surface options) - 1) ⌝ }
     ensures { λ _. ⌜ now (out .exit) ≡ sets (now (out .entry)) 0 (usOf (sidesOf surface options)) ⌝ }
+    ensures { λ _. ⌜ UColumnEnds surface options (now (out .exit)) ⌝ }
 {
     let d = surface.domain();
     let range = d.u;
@@ -159,6 +163,7 @@ fn u_of_corners(surface: Surface, options: Resolved, su: usize, sv: usize, out: 
 fn v_of_corners(surface: Surface, options: Resolved, su: usize, sv: usize, out: &mut [f64])
     requires { ⌜ (su ≡ length (uRungs surface options) - 1) × (sv ≡ length (vRungs surface options) - 1) ⌝ }
     ensures { λ _. ⌜ now (out .exit) ≡ sets (now (out .entry)) 0 (vsOf (sidesOf surface options)) ⌝ }
+    ensures { λ _. ⌜ VColumnEnds surface options (now (out .exit)) ⌝ }
 {
     let d = surface.domain();
     let range = d.v;
@@ -171,6 +176,7 @@ fn v_of_corners(surface: Surface, options: Resolved, su: usize, sv: usize, out: 
 fn put_corners(surface: Surface, options: Resolved, u: &mut [f64], v: &mut [f64])
     ensures { λ _. ⌜ now (u .exit) ≡ sets (now (u .entry)) 0 (usOf (sidesOf surface options)) ⌝ }
     ensures { λ _. ⌜ now (v .exit) ≡ sets (now (v .entry)) 0 (vsOf (sidesOf surface options)) ⌝ }
+    ensures { λ _. ⌜ UColumnEnds surface options (now (u .exit)) × VColumnEnds surface options (now (v .exit)) ⌝ }
 {
     let su = u_count(surface, options);
     let sv = v_count(surface, options);
@@ -274,6 +280,7 @@ pub fn full_domain_loop(
     y: &mut [f64],
     z: &mut [f64],
 ) -> f64
+    ensures { λ _. ⌜ ReachesCorners surface options (wholeRoom surface options (now (u .entry)) (now (v .entry)) (now (x .entry)) (now (y .entry)) (now (z .entry))) (now (u .exit)) (now (v .exit)) ⌝ }
     ensures { λ r. ⌜ r ≡ cond (wholeRoom surface options (now (u .entry)) (now (v .entry)) (now (x .entry)) (now (y .entry)) (now (z .entry))) (wholeArea surface options) plusZero ⌝ }
     ensures { λ _. ⌜ now (u .exit) ≡ lentTo (wholeRoom surface options (now (u .entry)) (now (v .entry)) (now (x .entry)) (now (y .entry)) (now (z .entry))) (usOf (wholeCorners surface options)) (now (u .entry)) ⌝ }
     ensures { λ _. ⌜ now (v .exit) ≡ lentTo (wholeRoom surface options (now (u .entry)) (now (v .entry)) (now (x .entry)) (now (y .entry)) (now (z .entry))) (vsOf (wholeCorners surface options)) (now (v .entry)) ⌝ }

@@ -1,6 +1,7 @@
 // The whole path on parallel slices: a sphere or a torus that no loop trims becomes its boundary.
 ghost use mathlib.Core.Path.{_≡_};
 ghost use lib.ListN.{set};
+ghost use Rattle.whole.specs.Boundary.{wholeRoom, ReachesCorners};
 ghost use Rattle.whole_path.specs.Face.{WholeAs};
 use numbers::math::Frame;
 use slices::put;
@@ -34,6 +35,7 @@ pub fn whole_face(
 ) -> usize
     ensures { λ r. ⌜ WholeAs surface frame options (now (ru .entry)) (now (rv .entry)) (now (rx .entry)) (now (ry .entry)) (now (rz .entry))
         (now (ru .exit)) (now (rv .exit)) (now (rx .exit)) (now (ry .exit)) (now (rz .exit)) (now (rcounts .entry)) (now (rcounts .exit)) (now (rareas .entry)) (now (rareas .exit)) r ⌝ }
+    ensures { λ _. ⌜ ReachesCorners surface options (wholeRoom surface options (now (ru .entry)) (now (rv .entry)) (now (rx .entry)) (now (ry .entry)) (now (rz .entry))) (now (ru .exit)) (now (rv .exit)) ⌝ }
 {
     let n = full_domain_count(surface, options);
     let area = full_domain_loop(surface, frame, options, ru, rv, rx, ry, rz);

@@ -57,13 +57,13 @@ returns c = λ sense lower upper rings.
     let args = c .before .before .before .before .before .before .before .before .before .before .before .before .before .before .before .before .before .before .before .before .before .before .before .before .before .before .before .before .before .before .before .before .before .before .before .before .before .args in
     laws.too-many (args .frame) (args .surface) (args .options) (args .period)
     (args .lu .now) (args .lv .now) (args .lx .now) (args .ly .now) (args .lz .now) (args .uu .now) (args .uv .now) (args .ux .now) (args .uy .now) (args .uz .now) _ _ _ _
-    (record { low-is = c .before .before .before .before .before .before .before .before .before .before .before .before .before .before .before .first-of2 .ensures; high-is = c .before .before .before .before .before .before .before .before .before .before .before .before .before .before .first-of3 .ensures; inner-is = c .before .before .before .before .before .before .before .before .before .before .before .before .before .wall-count .ensures; count-is = c .before .before .before .before .before .before .before .before .before .before .before .before .strip-count .ensures }) sense lower upper rings _ _ _ _ _ _ _
+    (record { low-is = c .before .before .before .before .before .before .before .before .before .before .before .before .before .before .before .first-of2 .ensures; high-is = c .before .before .before .before .before .before .before .before .before .before .before .before .before .before .first-of3 .ensures; inner-is = c .before .before .before .before .before .before .before .before .before .before .before .before .before .wall-count .ensures .0; count-is = c .before .before .before .before .before .before .before .before .before .before .before .before .strip-count .ensures }) sense lower upper rings _ _ _ _ _ _ _
     (c .before .room-in .ensures) (c .if1 .taken)
 
 raise-wall-requires : tie.Need-raise-wall-requires
 raise-wall-requires c κs =
     let args = c .before .before .before .before .before .before .before .before .before .before .before .before .before .before .before .before .before .before .before .before .before .before .before .before .before .before .before .before .before .before .before .before .before .before .before .before .before .before .before .before .before .args in
-    laws.ready (args .surface) (args .options) (args .lu .now) (args .lv .now) (args .uu .now) (args .uv .now) _ _ _ _ (record { low-is = c .before .before .before .before .before .before .before .before .before .before .before .before .before .before .before .before .before .before .before .first-of2 .ensures; high-is = c .before .before .before .before .before .before .before .before .before .before .before .before .before .before .before .before .before .before .first-of3 .ensures; inner-is = c .before .before .before .before .before .before .before .before .before .before .before .before .before .before .before .before .before .wall-count .ensures; count-is = c .before .before .before .before .before .before .before .before .before .before .before .before .before .before .before .before .strip-count .ensures })
+    laws.ready (args .surface) (args .options) (args .lu .now) (args .lv .now) (args .uu .now) (args .uv .now) _ _ _ _ (record { low-is = c .before .before .before .before .before .before .before .before .before .before .before .before .before .before .before .before .before .before .before .first-of2 .ensures; high-is = c .before .before .before .before .before .before .before .before .before .before .before .before .before .before .before .before .before .before .first-of3 .ensures; inner-is = c .before .before .before .before .before .before .before .before .before .before .before .before .before .before .before .before .before .wall-count .ensures .0; count-is = c .before .before .before .before .before .before .before .before .before .before .before .before .before .before .before .before .strip-count .ensures })
     (args .wv .now) (args .wx .now) (args .wy .now) (args .wz .now) (args .du .now) (args .dv .now) (args .dx .now) (args .dy .now) (args .dz .now) (args .places .now) _ (c .before .before .before .before .before .room-in .ensures) (c .before .before .before .before .if1 .left) (c .before .before .before .before .before .before .before .before .before .before .before .before .before .before .before .before .before .before .before .before .before .before .before .before .before .before .before .before .before .before .before .before .before .before .before .before .before .before .before .before .before .good .1 .1 .1 .1 .1 .1 .1 .1 .1 .1 .0 .1)
 
 lay-parameters-requires : tie.Need-lay-parameters-requires
@@ -110,7 +110,7 @@ returns-2 c = λ sense lower upper rings.
     let args = c .before .before .before .before .before .before .before .before .before .before .before .before .before .before .before .before .before .before .before .before .before .before .before .before .before .before .before .before .before .before .before .before .before .before .before .before .before .before .before .before .before .before .before .before .before .before .before .before .before .before .before .before .before .before .before .before .before .before .before .before .before .before .before .before .before .before .before .before .before .before .before .before .before .before .before .before .before .before .before .before .before .before .before .before .before .before .before .before .before .before .args in
     laws.closed (args .frame) (args .surface) (args .options) (args .period)
     (args .lu .now) (args .lv .now) (args .lx .now) (args .ly .now) (args .lz .now) (args .uu .now) (args .uv .now) (args .ux .now) (args .uy .now) (args .uz .now) _ _ _ _
-    (record { low-is = c .before .before .before .before .before .before .before .before .before .before .before .before .before .before .before .before .before .before .before .before .before .before .before .before .before .before .before .before .before .before .before .before .before .before .before .before .before .before .before .before .before .before .before .before .before .before .before .before .before .before .before .before .before .before .before .before .before .before .before .before .before .before .before .before .before .before .before .before .first-of2 .ensures; high-is = c .before .before .before .before .before .before .before .before .before .before .before .before .before .before .before .before .before .before .before .before .before .before .before .before .before .before .before .before .before .before .before .before .before .before .before .before .before .before .before .before .before .before .before .before .before .before .before .before .before .before .before .before .before .before .before .before .before .before .before .before .before .before .before .before .before .before .before .first-of3 .ensures; inner-is = c .before .before .before .before .before .before .before .before .before .before .before .before .before .before .before .before .before .before .before .before .before .before .before .before .before .before .before .before .before .before .before .before .before .before .before .before .before .before .before .before .before .before .before .before .before .before .before .before .before .before .before .before .before .before .before .before .before .before .before .before .before .before .before .before .before .before .wall-count .ensures; count-is = c .before .before .before .before .before .before .before .before .before .before .before .before .before .before .before .before .before .before .before .before .before .before .before .before .before .before .before .before .before .before .before .before .before .before .before .before .before .before .before .before .before .before .before .before .before .before .before .before .before .before .before .before .before .before .before .before .before .before .before .before .before .before .before .before .before .strip-count .ensures }) sense lower upper rings
+    (record { low-is = c .before .before .before .before .before .before .before .before .before .before .before .before .before .before .before .before .before .before .before .before .before .before .before .before .before .before .before .before .before .before .before .before .before .before .before .before .before .before .before .before .before .before .before .before .before .before .before .before .before .before .before .before .before .before .before .before .before .before .before .before .before .before .before .before .before .before .before .before .first-of2 .ensures; high-is = c .before .before .before .before .before .before .before .before .before .before .before .before .before .before .before .before .before .before .before .before .before .before .before .before .before .before .before .before .before .before .before .before .before .before .before .before .before .before .before .before .before .before .before .before .before .before .before .before .before .before .before .before .before .before .before .before .before .before .before .before .before .before .before .before .before .before .before .first-of3 .ensures; inner-is = c .before .before .before .before .before .before .before .before .before .before .before .before .before .before .before .before .before .before .before .before .before .before .before .before .before .before .before .before .before .before .before .before .before .before .before .before .before .before .before .before .before .before .before .before .before .before .before .before .before .before .before .before .before .before .before .before .before .before .before .before .before .before .before .before .before .before .wall-count .ensures .0; count-is = c .before .before .before .before .before .before .before .before .before .before .before .before .before .before .before .before .before .before .before .before .before .before .before .before .before .before .before .before .before .before .before .before .before .before .before .before .before .before .before .before .before .before .before .before .before .before .before .before .before .before .before .before .before .before .before .before .before .before .before .before .before .before .before .before .before .strip-count .ensures }) sense lower upper rings
     (args .wv .now) (args .wx .now) (args .wy .now) (args .wz .now) (args .du .now) (args .dv .now) (args .dx .now) (args .dy .now) (args .dz .now) (args .places .now)
     _ (c .before .before .before .before .before .before .before .before .before .before .before .before .before .before .before .before .before .before .before .before .before .before .before .before .before .before .before .before .before .before .before .before .before .before .before .before .before .before .before .before .before .before .before .before .before .before .before .before .before .before .before .before .before .before .room-in .ensures) (c .before .before .before .before .before .before .before .before .before .before .before .before .before .before .before .before .before .before .before .before .before .before .before .before .before .before .before .before .before .before .before .before .before .before .before .before .before .before .before .before .before .before .before .before .before .before .before .before .before .before .before .before .before .if1 .left)
     (c .before .before .before .before .before .before .before .before .before .before .before .before .before .before .before .before .before .before .before .before .before .before .before .before .before .before .before .before .before .before .before .before .before .before .before .before .before .before .before .before .before .before .before .before .before .before .before .before .before .before .before .before .before .before .before .before .before .before .before .before .before .before .before .before .before .before .before .before .before .before .before .before .before .before .before .before .before .before .before .before .before .before .before .before .before .before .before .before .before .before .good .1 .1 .1 .1 .1 .1 .1 .1 .1 .1 .0 .1) _ _ _ _ _ _ _ _ _ _ _ _ _ _ _ _

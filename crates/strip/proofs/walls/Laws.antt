@@ -20,8 +20,9 @@ use Rattle.surfaces.specs.Steps.{vStepsOf}
 use Rattle.lists.specs.Placed.{placed}
 use Rattle.lists.proofs.Elements.{getD-map}
 use Rattle.lists.proofs.Placed.{placed-fits, placed-short}
-use Rattle.bands.specs.Columns.{ladderOn, heightsOn}
+use Rattle.bands.specs.Columns.{ladderOn, heightsOn, heightsKept}
 use Rattle.bands.specs.Strip.{ladder, heights}
+use Rattle.bands.proofs.Walls.{heights-kept}
 use Rattle.strip.specs.Walls.{xsAt, ysAt, zsAt}
 
 -- ---- heights
@@ -56,6 +57,10 @@ module _ (s : Surface) (o : Resolved) (a b : Float) where
 
     pub ladder-written : (d e : List Float) → e ≡ sets d 0 (inner (rungs lo hi n)) → e ≡ sets d 0 (ladderOn s o a b)
     ladder-written d e h = h ∙ ap (sets d 0) ladder-is
+
+  -- by the rungs, and by the divisions kept
+  pub both-heights : (d e : List Float) → e ≡ placed 0 (heightsOn s o a b) d → (e ≡ placed 0 (heightsOn s o a b) d) × (e ≡ placed 0 (heightsKept s o a b) d)
+  both-heights d e h = (h, h ∙ ap (λ (w : List Float). placed 0 w d) (heights-kept s o a b))
 
   module _ (d : List Float) (n : ℕ) (count : n ≡ length (heightsOn s o a b)) where
     pub heights-none : length d < n → d ≡ placed 0 (heightsOn s o a b) d

@@ -1,4 +1,4 @@
--- The divisions of a stretch never fall, rounding included. So the sort of the Rust leaves them as they are, and the rungs never fall either.
+-- The divisions of a stretch never fall, rounding included. So the sort of the Rust leaves them as they are, and what is kept of them never falls either.
 use Prim.Native.Nat.{ℕ, zero, suc, _+_, _^_, _≤_, max}
 use mathlib.Core.Path.{_≡_, refl, ap, _∙_}
 use mathlib.Core.List.{List, [], _∷_}
@@ -12,7 +12,7 @@ use Rattle.numbers.specs.Within.{Within}
 use Rattle.numbers.proofs.Signed.{le-trans-float, not-less}
 use Rattle.numbers.proofs.Magnitude.{within-finite, sub-pow}
 use Rattle.numbers.proofs.Monotone.{add-mono-right, mul-mono-right, div-mono, sub-nonneg, ofInt-mono, ofInt-finite, ofInt-positive}
-use Rattle.surfaces.specs.Rungs.{division, divisionsFrom, divisions, slackOf, kept, rungs}
+use Rattle.surfaces.specs.Rungs.{division, divisionsFrom, divisions, slackOf, kept, keptDivisions}
 use Rattle.surfaces.proofs.knots.Kept.{Kept, done, dropped, taken, kept-after}
 use Rattle.surfaces.specs.Sorting.{insert, sorted, risingFrom, rising}
 
@@ -69,7 +69,7 @@ sorted-rising [] h = refl
 sorted-rising (x ∷ xs) h = sorted-from x xs h
 
 -- ---- what is kept never falls
-lower-start : (x y : Float) (ys : List Float) → T (le x y) → T (risingFrom y ys) → T (risingFrom x ys)
+pub lower-start : (x y : Float) (ys : List Float) → T (le x y) → T (risingFrom y ys) → T (risingFrom x ys)
 lower-start x y [] h k = tt
 lower-start x y (z ∷ zs) h k = and-i (le x z) (risingFrom z zs) (le-trans-float x y z h (and-l (le y z) (risingFrom z zs) k)) (and-r (le y z) (risingFrom z zs) k)
 
@@ -79,11 +79,11 @@ kept-rise {last = last} (dropped {x = x} {xs = xs} n k) h = kept-rise k (lower-s
 kept-rise {last = last} (taken {x = x} {xs = xs} {ks = ks} n k) h = and-i (le last x) (risingFrom x ks) (and-l (le last x) (risingFrom x xs) h) (kept-rise k (and-r (le last x) (risingFrom x xs) h))
 
 module _ (lo hi : Float) (n : ℕ) (s : Stretch lo hi) (few : n ≤ 2 ^ 53) where
-  pub rungs-rise : T (rising (rungs lo hi n))
-  unfolding rungs divisionsFrom
-  rungs-rise = kept-rise (kept-after (slackOf lo hi) (division lo hi n 0) (divisionsFrom lo hi n 1 n)) (divisions-rise lo hi n s few)
+  pub kept-rises : T (rising (keptDivisions lo hi n))
+  unfolding keptDivisions divisionsFrom
+  kept-rises = kept-rise (kept-after (slackOf lo hi) (division lo hi n 0) (divisionsFrom lo hi n 1 n)) (divisions-rise lo hi n s few)
 
-  -- `merge_even` as the Rust has it, its sort included
-  pub sort-changes-nothing : kept (slackOf lo hi) (sorted (divisions lo hi n)) ≡ rungs lo hi n
-  unfolding rungs
+  -- what `merge_even` of the Rust keeps, its sort included
+  pub sort-changes-nothing : kept (slackOf lo hi) (sorted (divisions lo hi n)) ≡ keptDivisions lo hi n
+  unfolding keptDivisions
   sort-changes-nothing = ap (kept (slackOf lo hi)) (sorted-rising (divisions lo hi n) (divisions-rise lo hi n s few))

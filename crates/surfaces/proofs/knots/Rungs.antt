@@ -1,88 +1,181 @@
 -- The laws of the rungs that callers use: how many, which, the first, the last, and the ends.
 use Prim.Native.Nat.{ℕ, zero, suc, _+_, _-_, _^_, _≤_, _<_, max}
 use mathlib.Core.Path.{_≡_, refl, sym, ap, _∙_, subst}
-use mathlib.Core.Logic.{inl}
-use mathlib.Core.Bool.{Bool, true, false, cond}
+use mathlib.Core.Logic.{_⊎_, inl, inr}
+use mathlib.Core.Bool.{Bool, true, false, not, cond}
 use mathlib.Core.List.{List, [], _∷_, _++_, dropLast}
 use native.Mathlib.Nat.{not-suc-le-zero, le-of-suc-le-suc}
 use native.Mathlib.Omega.{arith}
 use lib.Dec.{T}
-use lib.ListN.{length, getD}
-use lib.Ieee.{Float, nan, fin, binary64, mul, le, eq, fits, ofBits}
+use lib.ListN.{length, getD, drop, length-append, length-drop}
+use lib.Seq.{sets, length-sets, getD-drop}
+use lib.Ieee.{Float, nan, fin, binary64, mul, le, eq, ne, fits, ofBits}
 use lib.Ieee.Scale.{finite}
+use Rattle.lists.proofs.Stores.{sets-at}
 use Rattle.numbers.specs.Constants.{plusZero}
 use Rattle.numbers.specs.Order.{absOf}
 use Rattle.numbers.specs.Rounded.{_⊕_, _⊖_, _⊗_, count}
 use Rattle.numbers.proofs.Monotone.{ofInt-positive}
-use Rattle.numbers.proofs.Zeros.{nil, plus-zero-is, none-of, plus-none, plus-zero, no-width, minus-self, minus-negative-zero}
-use Rattle.surfaces.specs.Rungs.{division, divisionsFrom, slackOf, nano, near, keptAfter, rungs, inner}
+use Rattle.numbers.proofs.Zeros.{nil, plus-zero-is, none-of, plus-none, plus-zero, no-width, minus-self, minus-negative-zero, as-one-eq}
+use Rattle.surfaces.specs.Rungs.{division, divisionsFrom, slackOf, nano, near, keptAfter, keptDivisions, endedOn, rungs, EndsOn, EndWritten, inner}
+use Rattle.surfaces.proofs.knots.Ended.{ended-is, inner-ended, length-ended, last-added, each-front, each-ended}
 use Rattle.surfaces.proofs.knots.Inner.{inner-length}
 use Rattle.surfaces.proofs.knots.Kept.{Kept, Covers, kept-step, kept-after, kept-few, kept-each, kept-apart, kept-cover, kept-last}
 use Rattle.surfaces.proofs.knots.Rising.{Stretch}
 
 module _ (lo hi : Float) (n : ℕ) where
-  from-length : (i k : ℕ) → length (divisionsFrom lo hi n i k) ≡ k
+  pub from-length : (i k : ℕ) → length (divisionsFrom lo hi n i k) ≡ k
   unfolding divisionsFrom
   from-length i zero = refl
   from-length i (suc k) = ap suc (from-length (suc i) k)
 
-  from-at : (i k j : ℕ) → j < k → getD (divisionsFrom lo hi n i k) j nan ≡ division lo hi n (i + j)
+  pub from-at : (i k j : ℕ) → j < k → getD (divisionsFrom lo hi n i k) j nan ≡ division lo hi n (i + j)
   unfolding divisionsFrom
   from-at i zero j h = absurd (not-suc-le-zero h)
   from-at i (suc k) zero h = let e : i + 0 ≡ i = omega arith in rw e
   from-at i (suc k) (suc j) h = let e : suc i + j ≡ i + suc j = omega arith in from-at (suc i) k j (le-of-suc-le-suc h) ∙ ap (division lo hi n) e
 
-  after : List Float
+  pub after : List Float
   after = keptAfter (slackOf lo hi) (division lo hi n 0) (divisionsFrom lo hi n 1 n)
 
-  kept : Kept (slackOf lo hi) (division lo hi n 0) (divisionsFrom lo hi n 1 n) after
+  pub kept : Kept (slackOf lo hi) (division lo hi n 0) (divisionsFrom lo hi n 1 n) after
   unfolding after
   kept = kept-after (slackOf lo hi) (division lo hi n 0) (divisionsFrom lo hi n 1 n)
 
-  rungs-are : rungs lo hi n ≡ division lo hi n 0 ∷ after
-  unfolding rungs divisionsFrom after
-  rungs-are = refl
+  pub kept-are : keptDivisions lo hi n ≡ division lo hi n 0 ∷ after
+  unfolding keptDivisions divisionsFrom after
+  kept-are = refl
 
-  -- ---- how many: at least one, and at most n + 1
+  -- ---- where the ends are one as numbers, what is kept; else the upper end in the place of the last of it, or after a lone one
+  pub rungs-kept : ne lo hi ≡ false → rungs lo hi n ≡ keptDivisions lo hi n
+  unfolding rungs
+  rungs-kept h = rw h
+
+  pub rungs-set : ne lo hi ≡ true → rungs lo hi n ≡ endedOn hi (keptDivisions lo hi n)
+  unfolding rungs
+  rungs-set h = rw h
+
+  -- what holds of both holds of the rungs
+  pub rungs-either : (P : List Float → Type 0) → P (division lo hi n 0 ∷ after) → P (endedOn hi (division lo hi n 0 ∷ after)) → P (rungs lo hi n)
+  rungs-either P p q = go (ne lo hi) refl
+    where
+      go : (t : Bool) → ne lo hi ≡ t → P (rungs lo hi n)
+      go true h = subst P (sym (rungs-set h ∙ ap (endedOn hi) kept-are)) q
+      go false h = subst P (sym (rungs-kept h ∙ kept-are)) p
+
+  -- 02, N2: "`merge_even` now ends on its upper bound itself, whenever the bounds differ"
+  rungs-front : ne lo hi ≡ true → rungs lo hi n ≡ (division lo hi n 0 ∷ dropLast after) ++ (hi ∷ [])
+  rungs-front h = rungs-set h ∙ ap (endedOn hi) kept-are ∙ ended-is hi (division lo hi n 0) after
+
+  pub rungs-end : (k : ℕ) → k ≡ length (rungs lo hi n) - 1 → EndsOn lo hi k (rungs lo hi n)
+  rungs-end k e h =
+      let front = division lo hi n 0 ∷ dropLast after in
+      let m = ap length (rungs-front h) in
+      let a = length-append front (hi ∷ []) in
+      (front, omega arith, rungs-front h)
+
+  last-rung : ne lo hi ≡ true → getD (rungs lo hi n) (length (rungs lo hi n) - 1) nan ≡ hi
+  last-rung h = ap (λ (l : List Float). getD l (length l - 1) nan) (rungs-front h) ∙ last-added hi (division lo hi n 0 ∷ dropLast after)
+
+  -- so it does where it is written
+  pub end-written : (from : ℕ) (os out : List Float) → out ≡ sets os 0 (drop from (rungs lo hi n)) → EndWritten lo hi n from out
+  end-written from os out e h k at room =
+      let xs = drop from (rungs lo hi n) in
+      let long : length out ≡ length os = ap length e ∙ length-sets os 0 xs in
+      let many : length xs ≡ suc k = length-drop from (rungs lo hi n) ∙ omega arith in
+      let last : from + k ≡ length (rungs lo hi n) - 1 = omega arith in
+      ap (λ (l : List Float). getD l k nan) e ∙ sets-at os xs k nan (omega arith) (omega arith) ∙ getD-drop from (rungs lo hi n) k nan
+      ∙ ap (λ (j : ℕ). getD (rungs lo hi n) j nan) last ∙ last-rung h
+
+  -- the inner rungs are those of the divisions kept: no wall of a band moves
+  pub inner-kept : inner (rungs lo hi n) ≡ inner (keptDivisions lo hi n)
+  inner-kept =
+      let first = division lo hi n 0 in
+      rungs-either (λ (l : List Float). inner l ≡ inner (keptDivisions lo hi n)) (ap inner (sym kept-are)) (inner-ended hi first after ∙ ap inner (sym kept-are))
+
+  inner-is : inner (rungs lo hi n) ≡ dropLast after
+  unfolding inner
+  inner-is = inner-kept ∙ ap inner kept-are
+
+  -- a first one, so many inner ones, and the upper end
+  pub inner-end : (m : ℕ) → m ≡ length (inner (rungs lo hi n)) → EndsOn lo hi (m + 1) (rungs lo hi n)
+  inner-end m e h =
+      let front = division lo hi n 0 ∷ dropLast after in
+      let i = ap length inner-is in
+      (front, omega arith, rungs-front h)
+
+  -- the first division, the inner rungs and the upper end
+  pub rungs-ended : ne lo hi ≡ true → rungs lo hi n ≡ division lo hi n 0 ∷ (inner (rungs lo hi n) ++ (hi ∷ []))
+  rungs-ended h =
+      let first = division lo hi n 0 in
+      rungs-set h ∙ ap (endedOn hi) kept-are ∙ ended-is hi first after ∙ ap (λ (l : List Float). first ∷ (l ++ (hi ∷ []))) (sym inner-is)
+
+  -- ---- how many: at least one, and at most n + 1, or two
   pub rungs-some : 0 < length (rungs lo hi n)
-  rungs-some = rw rungs-are (omega arith)
+  rungs-some = let e = length-ended hi (division lo hi n 0) after in rungs-either (λ (l : List Float). 0 < length l) (omega arith) (omega arith)
 
-  pub rungs-few : length (rungs lo hi n) ≤ n + 1
+  pub rungs-few : length (rungs lo hi n) ≤ max n 1 + 1
   rungs-few =
       let a = kept-few kept in
       let b = from-length 1 n in
-      rw rungs-are (omega arith)
+      let e = length-ended hi (division lo hi n 0) after in
+      rungs-either (λ (l : List Float). length l ≤ max n 1 + 1) (omega arith) (omega arith)
+
+  kept-most : length (keptDivisions lo hi n) ≤ n + 1
+  kept-most =
+      let a = kept-few kept in
+      let b = from-length 1 n in
+      rw kept-are (omega arith)
 
   pub inner-few : length (inner (rungs lo hi n)) ≤ n - 1
-  inner-few = let a = rungs-few in let b = inner-length (rungs lo hi n) in omega arith
+  inner-few = let a = kept-most in let b = ap length inner-kept ∙ inner-length (keptDivisions lo hi n) in omega arith
 
-  -- ---- which: each is a division, no two neighbours are near, and each division is a rung or near the rung before it
+  -- ---- which: each inner one is a division, and each other one too or the upper end
   pub record IsDivision (x : Float) : Type 0 where
     pub at : ℕ
     pub most : at ≤ n
     pub is : x ≡ division lo hi n at
 
-  pub rungs-each : (j : ℕ) → j < length (rungs lo hi n) → IsDivision (getD (rungs lo hi n) j nan)
-  rungs-each = rw rungs-are each
+  later : (i : ℕ) → i < length (divisionsFrom lo hi n 1 n) → IsDivision (getD (divisionsFrom lo hi n 1 n) i nan)
+  later i h = let l : i < n = omega (arith, from-length 1 n) in record { at = 1 + i; most = omega arith; is = from-at 1 n i l }
+
+  after-each : (j : ℕ) → j < length after → IsDivision (getD after j nan)
+  after-each = kept-each IsDivision kept later
+
+  pub inner-each : (j : ℕ) → j < length (inner (rungs lo hi n)) → IsDivision (getD (inner (rungs lo hi n)) j nan)
+  inner-each = rw inner-is (each-front IsDivision after after-each)
+
+  pub rungs-each : (j : ℕ) → j < length (rungs lo hi n) → IsDivision (getD (rungs lo hi n) j nan) ⊎ (getD (rungs lo hi n) j nan ≡ hi)
+  rungs-each = rungs-either (λ (l : List Float). (j : ℕ) → j < length l → Rung (getD l j nan)) all (rw (ended-is hi (division lo hi n 0) after) set)
     where
-      each : (j : ℕ) → j < length (division lo hi n 0 ∷ after) → IsDivision (getD (division lo hi n 0 ∷ after) j nan)
-      each zero h = record { at = 0; most = omega arith; is = refl }
-      each (suc j) h = kept-each IsDivision kept later j (le-of-suc-le-suc h)
-        where
-          later : (i : ℕ) → i < length (divisionsFrom lo hi n 1 n) → IsDivision (getD (divisionsFrom lo hi n 1 n) i nan)
-          later i h = let l : i < n = omega (arith, from-length 1 n) in record { at = 1 + i; most = omega arith; is = from-at 1 n i l }
+      Rung : Float → Type 0
+      Rung x = IsDivision x ⊎ (x ≡ hi)
 
-  pub rungs-apart : (j : ℕ) → suc j < length (rungs lo hi n) → near (slackOf lo hi) (getD (rungs lo hi n) (suc j) nan) (getD (rungs lo hi n) j nan) ≡ false
-  rungs-apart = rw rungs-are (λ j h. kept-apart kept j (le-of-suc-le-suc h))
+      first : Rung (division lo hi n 0)
+      first = inl (record { at = 0; most = omega arith; is = refl })
 
-  pub rungs-cover : (i : ℕ) → i ≤ n → (j : ℕ) × (j < length (rungs lo hi n)) × Covers (slackOf lo hi) (division lo hi n i) (getD (rungs lo hi n) j nan)
-  rungs-cover zero h = rw rungs-are (0, omega arith, inl refl)
-  rungs-cover (suc i) h =
+      all : (j : ℕ) → j < length (division lo hi n 0 ∷ after) → Rung (getD (division lo hi n 0 ∷ after) j nan)
+      all zero h = first
+      all (suc j) h = inl (after-each j (le-of-suc-le-suc h))
+
+      set : (j : ℕ) → j < length (division lo hi n 0 ∷ (dropLast after ++ (hi ∷ []))) → Rung (getD (division lo hi n 0 ∷ (dropLast after ++ (hi ∷ []))) j nan)
+      set zero h = first
+      set (suc j) h = each-ended Rung hi (inr refl) after (λ i l. inl (after-each i l)) j (le-of-suc-le-suc h)
+
+  -- ---- of the divisions kept no two neighbours are near, and each division is kept or near the one kept before it
+  pub divisions-apart : (j : ℕ) → suc j < length (keptDivisions lo hi n)
+      → near (slackOf lo hi) (getD (keptDivisions lo hi n) (suc j) nan) (getD (keptDivisions lo hi n) j nan) ≡ false
+  divisions-apart = rw kept-are (λ j h. kept-apart kept j (le-of-suc-le-suc h))
+
+  pub divisions-cover : (i : ℕ) → i ≤ n
+      → (j : ℕ) × (j < length (keptDivisions lo hi n)) × Covers (slackOf lo hi) (division lo hi n i) (getD (keptDivisions lo hi n) j nan)
+  divisions-cover zero h = rw kept-are (0, omega arith, inl refl)
+  divisions-cover (suc i) h =
       let l : i < length (divisionsFrom lo hi n 1 n) = omega (arith, from-length 1 n) in
       let c = kept-cover kept i l in
       let q : getD (divisionsFrom lo hi n 1 n) i nan ≡ division lo hi n (suc i) = (let e : 1 + i ≡ suc i = omega arith in from-at 1 n i h ∙ ap (division lo hi n) e) in
       let f = c .1 in
-      rw rungs-are (c .0, omega arith, subst (λ (x : Float). Covers (slackOf lo hi) x (getD (division lo hi n 0 ∷ after) (c .0) nan)) q (c .2))
+      rw kept-are (c .0, omega arith, subst (λ (x : Float). Covers (slackOf lo hi) x (getD (division lo hi n 0 ∷ after) (c .0) nan)) q (c .2))
 
 top-division : (lo hi : Float) (m : ℕ) → getD (divisionsFrom lo hi (suc m) 1 (suc m)) (length (divisionsFrom lo hi (suc m) 2 m)) nan ≡ division lo hi (suc m) (suc m)
 top-division lo hi m =
@@ -91,16 +184,17 @@ top-division lo hi m =
     let h : m < n = omega arith in
     ap (λ (j : ℕ). getD (divisionsFrom lo hi n 1 n) j nan) (from-length lo hi n 2 m) ∙ from-at lo hi n 1 n m h ∙ ap (division lo hi n) e
 
--- the last division is the last rung, or is near it
-pub rungs-last : (lo hi : Float) (n : ℕ) → Covers (slackOf lo hi) (division lo hi n n) (getD (rungs lo hi n) (length (rungs lo hi n) - 1) nan)
+-- the last division is the last that is kept, or is near it
+pub divisions-last : (lo hi : Float) (n : ℕ)
+    → Covers (slackOf lo hi) (division lo hi n n) (getD (keptDivisions lo hi n) (length (keptDivisions lo hi n) - 1) nan)
 unfolding after divisionsFrom keptAfter
-rungs-last lo hi zero = rw (rungs-are lo hi 0) (inl refl)
-rungs-last lo hi (suc m) =
+divisions-last lo hi zero = rw (kept-are lo hi 0) (inl refl)
+divisions-last lo hi (suc m) =
     let n = suc m in
     let first = division lo hi n 0 in
     let all = after lo hi n in
     let length-is : length (first ∷ all) - 1 ≡ length all = omega arith in
-    rw (rungs-are lo hi n, length-is) (subst (λ (x : Float). Covers (slackOf lo hi) x (getD (first ∷ all) (length all) nan)) (top-division lo hi m) (kept-last (kept lo hi n)))
+    rw (kept-are lo hi n, length-is) (subst (λ (x : Float). Covers (slackOf lo hi) x (getD (first ∷ all) (length all) nan)) (top-division lo hi m) (kept-last (kept lo hi n)))
 
 -- ---- the first is lo + 0.0: lo as a number, and 0.0 for -0.0
 first-division : (lo hi : Float) (n : ℕ) → Stretch lo hi → n ≤ 2 ^ 53 → division lo hi n 0 ≡ lo ⊕ plusZero
@@ -111,19 +205,30 @@ first-division lo hi n s few =
     ∙ plus-none lo (z .sign) (s .lower) (λ e p. minus-negative-zero hi e (z .sign) (z .size) (z .expo) (subst (λ (x : Float). T (le x hi)) p (s .order)) (subst (λ (x : Float). hi ⊖ x ≡ fin (z .sign) (z .size) (z .expo)) p (z .width)))
 
 pub rungs-first : (lo hi : Float) (n : ℕ) → Stretch lo hi → n ≤ 2 ^ 53 → getD (rungs lo hi n) 0 nan ≡ lo ⊕ plusZero
-rungs-first lo hi n s few = rw (rungs-are lo hi n) (first-division lo hi n s few)
+rungs-first lo hi n s few =
+    rungs-either lo hi n (λ (l : List Float). getD l 0 nan ≡ lo ⊕ plusZero) (first-division lo hi n s few)
+    (ap (λ (l : List Float). getD l 0 nan) (ended-is hi (division lo hi n 0) (after lo hi n)) ∙ first-division lo hi n s few)
+
+-- ---- between two ends that differ: the lower end as a number, the inner rungs and the upper end itself
+pub rungs-between : (lo hi : Float) (n : ℕ) → Stretch lo hi → n ≤ 2 ^ 53 → ne lo hi ≡ true
+    → rungs lo hi n ≡ (lo ⊕ plusZero) ∷ (inner (rungs lo hi n) ++ (hi ∷ []))
+rungs-between lo hi n s few h = rungs-ended lo hi n h ∙ ap (λ (x : Float). x ∷ (inner (rungs lo hi n) ++ (hi ∷ []))) (first-division lo hi n s few)
 
 pub rungs-start : (lo hi : Float) (n : ℕ) → Stretch lo hi → n ≤ 2 ^ 53 → T (fits binary64 lo) → eq (getD (rungs lo hi n) 0 nan) lo ≡ true
 rungs-start lo hi n s few f = rw (rungs-first lo hi n s few) (plus-zero lo f (s .lower) .0)
 
--- ---- no steps, and no width: the first alone
-pub rungs-of-none : (lo hi : Float) → rungs lo hi 0 ≡ division lo hi 0 0 ∷ []
-unfolding rungs divisionsFrom keptAfter
+-- ---- no steps: the first alone, or the two ends; and no width: the first alone
+pub rungs-of-none : (lo hi : Float) → rungs lo hi 0 ≡ cond (ne lo hi) (division lo hi 0 0 ∷ hi ∷ []) (division lo hi 0 0 ∷ [])
+unfolding rungs endedOn keptDivisions divisionsFrom keptAfter
 rungs-of-none lo hi = refl
 
 least : le (absOf (nil false)) (absOf (nil false) ⊗ nano) ≡ true
 unfolding le absOf mul ofBits
 least = refl
+
+itself : (x : Float) → T (finite x) → ne x x ≡ false
+unfolding ne
+itself x h = ap not (as-one-eq x x h (inl refl))
 
 module _ (lo : Float) (n : ℕ) (held : T (fits binary64 lo)) (lower : T (finite lo)) (few : n ≤ 2 ^ 53) where
   equal-division : (i : ℕ) → i ≤ 2 ^ 53 → division lo lo n i ≡ lo ⊕ plusZero
@@ -148,7 +253,7 @@ module _ (lo : Float) (n : ℕ) (held : T (fits binary64 lo)) (lower : T (finite
   pub rungs-of-equal : rungs lo lo n ≡ (lo ⊕ plusZero) ∷ []
   unfolding after
   rungs-of-equal =
-      rungs-are lo lo n
+      rungs-kept lo lo n (itself lo lower) ∙ kept-are lo lo n
       ∙ ap (λ (d : Float). d ∷ keptAfter (slackOf lo lo) d (divisionsFrom lo lo n 1 n)) (equal-division 0 (omega arith))
       ∙ ap (λ (l : List Float). (lo ⊕ plusZero) ∷ l) (none-after 1 n (omega arith))
 

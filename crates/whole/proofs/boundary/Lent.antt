@@ -48,14 +48,14 @@ none-area : areaOf [] [] ≡ plusZero
 unfolding areaOf crossSum mul ofBits
 none-area = refl
 
-record Rooms (n : ℕ) (us vs xs ys zs : List Float) : Type 0 where
-  in-us : n ≤ length us
-  in-vs : n ≤ length vs
+pub record Rooms (n : ℕ) (us vs xs ys zs : List Float) : Type 0 where
+  pub in-us : n ≤ length us
+  pub in-vs : n ≤ length vs
   in-xs : n ≤ length xs
   in-ys : n ≤ length ys
   in-zs : n ≤ length zs
 
-rooms : (n : ℕ) (us vs xs ys zs : List Float) → roomInAll n us vs xs ys zs ≡ true → Rooms n us vs xs ys zs
+pub rooms : (n : ℕ) (us vs xs ys zs : List Float) → roomInAll n us vs xs ys zs ≡ true → Rooms n us vs xs ys zs
 rooms n us vs xs ys zs = go (leb n (length us)) (leb n (length vs)) (leb n (length xs)) (leb n (length ys)) (leb n (length zs)) refl refl refl refl refl
   where
     go : (a b c d e : Bool) → leb n (length us) ≡ a → leb n (length vs) ≡ b → leb n (length xs) ≡ c → leb n (length ys) ≡ d → leb n (length zs) ≡ e
@@ -77,7 +77,7 @@ module _ (s : Surface) (f : Frame) (o : Resolved) (us vs xs ys zs : List Float) 
   room = wholeRoom s o us vs xs ys zs
 
   -- what `full_domain_loop` answers and leaves
-  abbrev Left : Float → List Float → List Float → List Float → List Float → List Float → Type 0
+  abbrev pub Left : Float → List Float → List Float → List Float → List Float → List Float → Type 0
   Left r us′ vs′ xs′ ys′ zs′ =
       (r ≡ cond room (wholeArea s o) plusZero)
       × ((us′ ≡ lentTo room (usOf (wholeCorners s o)) us)

@@ -15,9 +15,9 @@ use Rattle.surfaces.specs.declared.surface.Surface.{Surface}
 use Rattle.surfaces.specs.declared.surface.Domain.{Domain}
 use Rattle.surfaces.specs.Domains.{domainOf}
 use Rattle.surfaces.specs.Rungs.{rungs}
-use Rattle.surfaces.proofs.knots.Rungs.{rungs-few, rungs-some}
+use Rattle.surfaces.proofs.knots.Rungs.{rungs-few, rungs-some, rungs-end}
 use Rattle.loops.specs.Part.{partOf}
-use Rattle.whole.specs.Boundary.{isWhole, clamped, corner, sides, sidesOf, usOf, vsOf, uSteps, vSteps, uRungs, vRungs, wholeCorners}
+use Rattle.whole.specs.Boundary.{isWhole, clamped, corner, sides, sidesOf, usOf, vsOf, uSteps, vSteps, uRungs, vRungs, UEnds, VEnds, wholeCorners}
 
 -- ---- four stretches, one behind the other
 module _ {A : Type 0} where
@@ -108,7 +108,7 @@ module _ (us vs : List Float) (ui vi : Interval) where
       simp (length-append, length-map, length-dropLast) (let a = less-one us in let b = less-one vs in omega arith)
 
 -- ---- at most 256 steps
-few-steps : (n : ℕ) → clamped n ≤ 256
+pub few-steps : (n : ℕ) → clamped n ≤ 256
 few-steps n = omega arith
 
 module _ (s : Surface) (o : Resolved) where
@@ -127,6 +127,14 @@ module _ (s : Surface) (o : Resolved) where
   pub v-some : 0 < length (vRungs s o)
   unfolding vRungs
   v-some = rungs-some (domainOf s .v .lo) (domainOf s .v .hi) (vSteps s o)
+
+  pub u-ends : (k : ℕ) → k ≡ length (uRungs s o) - 1 → UEnds s o k
+  unfolding uRungs
+  u-ends = rungs-end (domainOf s .u .lo) (domainOf s .u .hi) (uSteps s o)
+
+  pub v-ends : (k : ℕ) → k ≡ length (vRungs s o) - 1 → VEnds s o k
+  unfolding vRungs
+  v-ends = rungs-end (domainOf s .v .lo) (domainOf s .v .hi) (vSteps s o)
 
   pub u-counted : (d : Domain) (n r : ℕ) → d ≡ domainOf s → n ≡ uSteps s o → r ≡ length (rungs (d .u .lo) (d .u .hi) n) - 1 → (r ≡ length (uRungs s o) - 1) × (r ≤ 256)
   unfolding uRungs

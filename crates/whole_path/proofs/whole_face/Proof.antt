@@ -37,7 +37,12 @@ same-length-7 : tie.Need-same-length-7
 same-length-7 c = search needs
 
 returns : tie.Need-returns
-returns c = whole-as _ _ _ _ _ _ _ _ _ _ _ _ _ _ _ _ _ _ _ (c .before .before .before .before .before .before .before .before .before .before .before .before .before .before .before .before .before .before .before .before .before .before .before .before .full-domain-count .ensures) (c .before .before .before .before .before .before .before .before .before .before .before .before .before .before .before .before .before .before .full-domain-loop .ensures) (c .before .before .before .before .before .before .put-count .ensures) (c .before .before .put .ensures)
+returns c =
+    let counted = c .before .before .before .before .before .before .before .before .before .before .before .before .before .before .before .before .before .before .before .before .before .before .before .before .full-domain-count .ensures in
+    let boundary = c .before .before .before .before .before .before .before .before .before .before .before .before .before .before .before .before .before .before .full-domain-loop .ensures in (
+      whole-as _ _ _ _ _ _ _ _ _ _ _ _ _ _ _ _ _ _ _ (counted .0) (boundary .1) (c .before .before .before .before .before .before .put-count .ensures) (c .before .before .put .ensures),
+      boundary .0,
+    )
 
 pub whole-face-spec : {M : Type 1} → statement M
 whole-face-spec =

@@ -1,3 +1,4 @@
+use mathlib.Core.Path.{sym}
 use borrow.Author.Needs.{needs}
 use Rattle.compared.proofs.of_whole.compared_full_domain_count.Statement.{statement}
 use Rattle.compared.proofs.of_whole.compared_full_domain_count.Tie as tie
@@ -9,7 +10,7 @@ full-domain-count-requires : tie.Need-full-domain-count-requires
 full-domain-count-requires c κs = search needs
 
 returns : tie.Need-returns
-returns c = cc
+returns c = rw (sym (c .before .surface-of .ensures)) (c .full-domain-count .ensures)
 
 pub compared-full-domain-count-spec : {M : Type 1} → statement M
 compared-full-domain-count-spec =

@@ -57,7 +57,15 @@ same-length : tie.Need-same-length
 same-length c = search needs
 
 returns : tie.Need-returns
-returns c = λ s fine room bare surface-is frame-is options-are. c .before .before .written .ensures s fine (path-whole s bare) room (whole-held s bare _ _ _ surface-is frame-is options-are _ _ _ _ _ _ _ _ _ _ _ _ _ _ _ (c .before .before .before .before .before .before .before .before .before .before .before .before .before .before .before .before .before .before .whole-face .ensures) (record { in-u = refl; in-v = refl; in-x = refl; in-y = refl; in-z = refl }) (c .before .before .before .before .before .before .before .before .before .before .before .before .before .before .before .before .before .u2 .given) refl refl (c .before .before .before .before .before .before .before .before .before .before .before .before .counts2 .given) (c .before .before .before .before .before .before .before .before .before .before .before .areas2 .given))
+returns c =
+    let filled = c .before .before .before .before .before .before .before .before .before .before .before .before .before .before .before .before .before .before .whole-face .ensures in
+    let u-before = c .before .before .before .before .before .before .before .before .before .before .before .before .before .before .before .before .before .u2 .given in
+    let counts-before = c .before .before .before .before .before .before .before .before .before .before .before .before .counts2 .given in
+    let areas-before = c .before .before .before .before .before .before .before .before .before .before .before .areas2 .given in
+    λ s fine room bare surface-is frame-is options-are.
+    c .before .before .written .ensures s fine (path-whole s bare) room
+    (whole-held s bare _ _ _ surface-is frame-is options-are _ _ _ _ _ _ _ _ _ _ _ _ _ _ _ (filled .0)
+    (record { in-u = refl; in-v = refl; in-x = refl; in-y = refl; in-z = refl }) u-before refl refl counts-before areas-before)
 
 pub close-whole-spec : {M : Type 1} → statement M
 close-whole-spec =

@@ -11,7 +11,10 @@ wall-count-requires : tie.Need-wall-count-requires
 wall-count-requires c κs = search needs
 
 returns : tie.Need-returns
-returns c = laws.heights-none (c .before .before .before .args .surface) (c .before .before .before .args .options) (c .before .before .before .args .lower) (c .before .before .before .args .upper) (c .before .before .before .args .dst .now) _ (c .before .wall-count .ensures) (c .if1 .taken)
+returns c =
+    let given = c .before .before .before .args in
+    laws.both-heights (given .surface) (given .options) (given .lower) (given .upper) (given .dst .now) _
+    (laws.heights-none (given .surface) (given .options) (given .lower) (given .upper) (given .dst .now) _ (c .before .wall-count .ensures .0) (c .if1 .taken))
 
 ladder-into-requires : tie.Need-ladder-into-requires
 ladder-into-requires c κs = search needs
@@ -20,7 +23,10 @@ same-length : tie.Need-same-length
 same-length c = search needs
 
 returns-2 : tie.Need-returns-2
-returns-2 c = laws.heights-up (c .before .before .before .before .before .before .before .before .args .surface) (c .before .before .before .before .before .before .before .before .args .options) (c .before .before .before .before .before .before .before .before .args .lower) (c .before .before .before .before .before .before .before .before .args .upper) (c .before .before .before .before .before .before .before .before .args .dst .now) _ (c .before .before .before .before .before .before .wall-count .ensures) _ (c .before .before .before .before .before .if1 .left) (c .before .before .before .ladder-into .ensures) (c .if2 .taken)
+returns-2 c =
+    let given = c .before .before .before .before .before .before .before .before .args in
+    laws.both-heights (given .surface) (given .options) (given .lower) (given .upper) (given .dst .now) _
+    (laws.heights-up (given .surface) (given .options) (given .lower) (given .upper) (given .dst .now) _ (c .before .before .before .before .before .before .wall-count .ensures .0) _ (c .before .before .before .before .before .if1 .left) (c .before .before .before .ladder-into .ensures) (c .if2 .taken))
 
 slice-relend-prefix-reverse : tie.Need-slice-relend-prefix-reverse
 slice-relend-prefix-reverse c = search needs
@@ -35,7 +41,10 @@ same-length-2 : tie.Need-same-length-2
 same-length-2 c = search needs
 
 returns-3 : tie.Need-returns-3
-returns-3 c = laws.heights-down (c .before .before .before .before .before .before .before .before .before .before .before .before .args .surface) (c .before .before .before .before .before .before .before .before .before .before .before .before .args .options) (c .before .before .before .before .before .before .before .before .before .before .before .before .args .lower) (c .before .before .before .before .before .before .before .before .before .before .before .before .args .upper) (c .before .before .before .before .before .before .before .before .before .before .before .before .args .dst .now) _ (c .before .before .before .before .before .before .before .before .before .before .wall-count .ensures) _ (c .before .before .before .before .before .before .before .before .before .if1 .left) (c .before .before .before .before .before .before .before .ladder-into .ensures) _ (c .before .before .before .before .if2 .left) (c .before .before .reverse .ensures)
+returns-3 c =
+    let given = c .before .before .before .before .before .before .before .before .before .before .before .before .args in
+    laws.both-heights (given .surface) (given .options) (given .lower) (given .upper) (given .dst .now) _
+    (laws.heights-down (given .surface) (given .options) (given .lower) (given .upper) (given .dst .now) _ (c .before .before .before .before .before .before .before .before .before .before .wall-count .ensures .0) _ (c .before .before .before .before .before .before .before .before .before .if1 .left) (c .before .before .before .before .before .before .before .ladder-into .ensures) _ (c .before .before .before .before .if2 .left) (c .before .before .reverse .ensures))
 
 pub heights-into-spec : {M : Type 1} → statement M
 heights-into-spec =

@@ -19,7 +19,13 @@ same-length : tie.Need-same-length
 same-length c = search needs
 
 returns : tie.Need-returns
-returns c = laws.ladder-written (c .before .before .before .before .before .before .before .before .args .surface) (c .before .before .before .before .before .before .before .before .args .options) (c .before .before .before .before .before .before .before .before .args .a) (c .before .before .before .before .before .before .before .before .args .b) _ _ _ (c .before .before .before .before .before .before .min .ensures) (c .before .before .before .before .before .max .ensures) (c .before .before .before .before .v-steps .ensures) (c .before .before .before .before .before .before .before .before .args .dst .now) _ (c .before .before .inner-into .ensures .1)
+returns c =
+    let given = c .before .before .before .before .before .before .before .before .args in
+    let least = c .before .before .before .before .before .before .min .ensures in
+    let most = c .before .before .before .before .before .max .ensures in
+    let steps = c .before .before .before .before .v-steps .ensures in
+    let inner = c .before .before .inner-into .ensures in
+    laws.ladder-written (given .surface) (given .options) (given .a) (given .b) _ _ _ least most steps (given .dst .now) _ (inner .1 .0)
 
 pub ladder-into-spec : {M : Type 1} → statement M
 ladder-into-spec =

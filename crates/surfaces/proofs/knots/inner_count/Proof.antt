@@ -1,4 +1,7 @@
+use mathlib.Core.Path.{ap, _∙_}
+use lib.ListN.{length}
 use Rattle.surfaces.proofs.knots.Inner as laws
+use Rattle.surfaces.proofs.knots.Rungs.{inner-kept, inner-end}
 use borrow.Author.Needs.{needs}
 use Rattle.surfaces.proofs.knots.inner_count.Statement.{statement}
 use Rattle.surfaces.proofs.knots.inner_count.Tie as tie
@@ -10,7 +13,9 @@ less-one-requires : tie.Need-less-one-requires
 less-one-requires c κs = search needs
 
 returns : tie.Need-returns
-returns c = laws.inner-counted _ (c .before .merge-even-steps .ensures) (c .less-one .ensures)
+returns c =
+    let count = laws.inner-counted _ (c .before .merge-even-steps .ensures .0) (c .less-one .ensures) in
+    (count, (inner-end _ _ _ _ count, count ∙ ap length (inner-kept _ _ _)))
 
 pub inner-count-spec : {M : Type 1} → statement M
 inner-count-spec = tie.close (tie.spec merge-even-steps-requires less-one-requires returns)

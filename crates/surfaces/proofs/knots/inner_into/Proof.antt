@@ -1,7 +1,8 @@
 use native.Mathlib.Omega.{arith}
-use lib.Seq.{length-take-le}
-use mathlib.Core.Path.{sym}
+use lib.Seq.{sets, length-take-le}
+use mathlib.Core.Path.{sym, ap, _∙_}
 use Rattle.surfaces.proofs.knots.Inner as laws
+use Rattle.surfaces.proofs.knots.Rungs.{inner-kept}
 use borrow.Author.Needs.{needs}
 use Rattle.surfaces.proofs.knots.inner_into.Statement.{statement}
 use Rattle.surfaces.proofs.knots.inner_into.Tie as tie
@@ -25,13 +26,20 @@ same-length : tie.Need-same-length
 same-length c = search needs
 
 returns : tie.Need-returns
-returns c = (c .before .before .before .before .before .inner-count .ensures, laws.inner-part _ _ (c .before .before .before .before .before .inner-count .ensures) (c .before .before .merge-even .ensures))
+returns c =
+    let counted = c .before .before .before .before .before .inner-count .ensures in
+    let written = laws.inner-part _ _ (counted .0) (c .before .before .merge-even .ensures .0) in
+    (counted .0, (written, (counted .1 .0, written ∙ ap (sets _ 0) (inner-kept _ _ _))))
 
 same-length-2 : tie.Need-same-length-2
 same-length-2 c = search needs
 
 returns-2 : tie.Need-returns-2
-returns-2 c = (c .before .before .before .before .before .inner-count .ensures, laws.inner-whole _ _ (c .before .before .before .before .before .inner-count .ensures) (c .before .before .before .before .if1 .left) (c .before .before .merge-even2 .ensures))
+returns-2 c =
+    let counted = c .before .before .before .before .before .inner-count .ensures in
+    let no-more = c .before .before .before .before .if1 .left in
+    let written = laws.inner-whole _ _ (counted .0) no-more (c .before .before .merge-even2 .ensures .0) in
+    (counted .0, (written, (counted .1 .0, written ∙ ap (sets _ 0) (inner-kept _ _ _))))
 
 pub inner-into-spec : {M : Type 1} → statement M
 inner-into-spec =

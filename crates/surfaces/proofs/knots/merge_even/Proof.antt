@@ -51,11 +51,23 @@ loop-less-2 c = omega arith
 loop-again-2 : tie.Need-loop-again-2 Inv-loop μ-loop
 loop-again-2 c = walk.writing-near _ _ _ _ _ _ (c .before .before .before .before .loop .inv) (c .before .before .before .loop-test .taken) (c .before .before .division2 .ensures) (c .before .near .ensures) (c .if1 .left)
 
+larger-requires : tie.Need-larger-requires Inv-loop μ-loop
+larger-requires c κs = search needs
+
+put-requires-3 : tie.Need-put-requires-3 Inv-loop μ-loop
+put-requires-3 c κs = search needs
+
 same-length : tie.Need-same-length Inv-loop μ-loop
-same-length c = c .before .loop .inv .long ∙ c .before .before .before .before .put .kept .0
+same-length c = c .before .before .put3 .kept .0 ∙ c .before .before .before .before .before .before .before .loop .inv .long ∙ c .before .before .before .before .before .before .before .before .before .before .put .kept .0
 
 returns : tie.Need-returns Inv-loop μ-loop
-returns c = walk.writing-end _ _ _ _ _ _ (c .before .loop .inv) (c .loop-test .left) _ (c .before .before .before .before .before .before .before .slack .ensures) (c .before .before .before .before .before .before .division .ensures) (c .before .before .before .before .put .ensures)
+returns c = walk.writing-ended _ _ _ _ _ _ (c .before .before .before .before .before .before .before .loop .inv) (c .before .before .before .before .before .before .loop-test .left) _ (c .before .before .before .before .before .before .before .before .before .before .before .before .before .slack .ensures) (c .before .before .before .before .before .before .before .before .before .before .before .before .division .ensures) (c .before .before .before .before .before .before .before .before .before .before .put .ensures) (c .before .before .before .before .before .if2 .taken) (c .before .before .before .larger .ensures) (c .before .before .put3 .ensures)
+
+same-length-2 : tie.Need-same-length-2 Inv-loop μ-loop
+same-length-2 c = c .before .before .loop .inv .long ∙ c .before .before .before .before .before .put .kept .0
+
+returns-2 : tie.Need-returns-2 Inv-loop μ-loop
+returns-2 c = walk.writing-end _ _ _ _ _ _ (c .before .before .loop .inv) (c .before .loop-test .left) _ (c .before .before .before .before .before .before .before .before .slack .ensures) (c .before .before .before .before .before .before .before .division .ensures) (c .before .before .before .before .before .put .ensures) (c .if2 .left)
 
 pub merge-even-spec : {M : Type 1} → statement M
 merge-even-spec =
@@ -76,5 +88,9 @@ merge-even-spec =
     loop-again
     loop-less-2
     loop-again-2
+    larger-requires
+    put-requires-3
     same-length
-    returns)
+    returns
+    same-length-2
+    returns-2)

@@ -44,8 +44,14 @@ loop-less-2 c = omega arith
 loop-again-2 : tie.Need-loop-again-2 Inv-loop μ-loop
 loop-again-2 c = walk.walk-near _ _ _ _ (c .before .before .before .before .loop .inv) (c .before .before .before .loop-test .taken) (c .before .before .division2 .ensures) (c .before .near .ensures) (c .if1 .left)
 
+larger-requires : tie.Need-larger-requires Inv-loop μ-loop
+larger-requires c κs = search needs
+
 returns : tie.Need-returns Inv-loop μ-loop
-returns c = walk.walk-end _ _ _ _ (c .before .loop .inv) (c .loop-test .left)
+returns c = walk.walk-ended _ _ _ _ (c .before .before .before .loop .inv) (c .before .before .loop-test .left) (c .before .if2 .taken) (c .larger .ensures)
+
+returns-2 : tie.Need-returns-2 Inv-loop μ-loop
+returns-2 c = walk.walk-end _ _ _ _ (c .before .before .loop .inv) (c .before .loop-test .left) (c .if2 .left)
 
 pub merge-even-steps-spec : {M : Type 1} → statement M
 merge-even-steps-spec =
@@ -64,4 +70,6 @@ merge-even-steps-spec =
     loop-again
     loop-less-2
     loop-again-2
-    returns)
+    larger-requires
+    returns
+    returns-2)

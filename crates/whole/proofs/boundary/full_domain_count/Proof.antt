@@ -1,3 +1,5 @@
+use mathlib.Core.Path.{refl, sym, _∙_}
+use mathlib.Core.Bool.{true≢false}
 use Rattle.whole.proofs.boundary.Sides as laws
 use borrow.Author.Needs.{needs}
 use Rattle.whole.proofs.boundary.full_domain_count.Statement.{statement}
@@ -19,10 +21,15 @@ mul-result : tie.Need-mul-result
 mul-result c = search needs
 
 returns : tie.Need-returns
-returns c = laws.count-whole _ _ _ _ _ (c .before .before .before .is-whole .ensures) (c .before .before .if1 .taken) (c .before .u-count .ensures .0) (c .v-count .ensures .0)
+returns c =
+    let whole = c .before .before .before .is-whole .ensures in
+    let count = laws.count-whole _ _ _ _ _ whole (c .before .before .if1 .taken) (c .before .u-count .ensures .0 .0) (c .v-count .ensures .0 .0) in
+    (count, λ h. (_, _, refl, c .before .u-count .ensures .1, c .v-count .ensures .1))
 
 returns-2 : tie.Need-returns-2
-returns-2 c = laws.count-none _ _ _ (c .before .is-whole .ensures) (c .if1 .left)
+returns-2 c =
+    let count = laws.count-none _ _ _ (c .before .is-whole .ensures) (c .if1 .left) in
+    (count, λ h. absurd (true≢false (sym h ∙ sym (c .before .is-whole .ensures) ∙ c .if1 .left)))
 
 pub full-domain-count-spec : {M : Type 1} → statement M
 full-domain-count-spec =

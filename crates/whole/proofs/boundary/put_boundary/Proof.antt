@@ -44,7 +44,7 @@ returns c =
     let ps = c .before .before .before .before .before .before .before .before .before .before .before .put-positions .ensures in
     let u = c .before .before .before .before .before .before .before .before .before .before .before .before .before .before .before .before .before .part .ensures in
     let v = c .before .before .before .before .before .before .before .before .before .before .before .before .before .before .before .part2 .ensures in
-    (rw (c .signed-area .ensures, c .before .before .before .part3 .ensures, c .before .part4 .ensures), (cs .0, (cs .1, rw (← u, ← v) ps)))
+    (rw (c .signed-area .ensures, c .before .before .before .part3 .ensures, c .before .part4 .ensures), (cs .0, (cs .1 .0, rw (← u, ← v) ps)))
 
 pub put-boundary-spec : {M : Type 1} → statement M
 put-boundary-spec =

@@ -1,3 +1,4 @@
+use Rattle.whole.proofs.boundary.Columns.{u-column}
 use lib.ListN.{length}
 use lib.Seq.{length-sets}
 use mathlib.Core.Path.{refl, ap}
@@ -22,13 +23,15 @@ slice-aggregate-put-u : tie.Need-slice-aggregate-put-u
 slice-aggregate-put-u c = search needs
 
 put-u-requires : tie.Need-put-u-requires
-put-u-requires c κs = laws.u-ready _ _ _ _ (c .before .before .before .before .before .before .before .before .before .pre .0) (c .before .before .before .before .before .before .before .before .before .pre .1) _ (simp length-sets at (ap length (c .before .before .before .merge-even .ensures)))
+put-u-requires c κs = laws.u-ready _ _ _ _ (c .before .before .before .before .before .before .before .before .before .pre .0) (c .before .before .before .before .before .before .before .before .before .pre .1) _ (simp length-sets at (ap length (c .before .before .before .merge-even .ensures .0)))
 
 same-length : tie.Need-same-length
 same-length c = search needs
 
 returns : tie.Need-returns
-returns c = laws.u-corners _ _ _ _ (c .before .before .before .before .before .before .before .before .before .before .before .before .pre .0) (c .before .before .before .before .before .before .before .before .before .before .before .before .pre .1) _ (c .before .before .before .before .before .before .before .before .before .before .domain .ensures) _ _ refl _ _ _ (c .before .before .before .before .before .before .before .before .u-steps .ensures) (c .before .before .before .before .before .before .merge-even .ensures) (c .before .before .put-u .ensures)
+returns c =
+    let written = laws.u-corners _ _ _ _ (c .before .before .before .before .before .before .before .before .before .before .before .before .pre .0) (c .before .before .before .before .before .before .before .before .before .before .before .before .pre .1) _ (c .before .before .before .before .before .before .before .before .before .before .domain .ensures) _ _ refl _ _ _ (c .before .before .before .before .before .before .before .before .u-steps .ensures) (c .before .before .before .before .before .before .merge-even .ensures .0) (c .before .before .put-u .ensures) in
+    (written, u-column _ _ _ _ written)
 
 pub u-of-corners-spec : {M : Type 1} → statement M
 u-of-corners-spec =

@@ -13,7 +13,9 @@ merge-even-steps-requires : tie.Need-merge-even-steps-requires
 merge-even-steps-requires c κs = search needs
 
 returns : tie.Need-returns
-returns c = laws.v-counted _ _ _ _ _ (c .before .before .before .domain .ensures) (c .before .v-steps .ensures) (c .merge-even-steps .ensures)
+returns c =
+    let counted = laws.v-counted _ _ _ _ _ (c .before .before .before .domain .ensures) (c .before .v-steps .ensures) (c .merge-even-steps .ensures .0) in
+    (counted, laws.v-ends _ _ _ (counted .0))
 
 pub v-count-spec : {M : Type 1} → statement M
 v-count-spec =
