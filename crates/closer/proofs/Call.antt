@@ -13,11 +13,12 @@ use Rattle.records.specs.Call.{Outcome, outcome, code, value, lentAfter}
 use Rattle.records.specs.Limits.{resultBytes}
 use Rattle.records.specs.Refusals.{Verdict, passes, refuses, conditions, recordConditions, tooFewLent, verdict}
 use Rattle.records.proofs.Accepted.{accepted-exactly}
-use Rattle.judgement.specs.Demands.{Demand1, BandDemand}
+use Rattle.judgement.specs.Demands.{Demand1, BandDemand, WholeDemand}
 use Rattle.judgement.specs.Judge.{judge, result}
 use Rattle.judgement.specs.Later.{laterConditions}
 use Rattle.judgement.proofs.Demands.{demand-1, demand-3}
 use Rattle.magnitudes.specs.Bounded.{ResultBounded}
+use Rattle.magnitudes.proofs.Still.{whole-demand}
 use Rattle.magnitudes.proofs.Theorem.{result-bounded}
 use Rattle.paths.specs.declared.answer.Answer.{Answer}
 use Rattle.paths.specs.declared.answer.Answer.the-variants.{Refused}
@@ -33,7 +34,7 @@ use Rattle.closer.proofs.Stages.{first-refuse, first-pass}
 
 -- what the contract claims of a pair and of the lent bytes, beside its equations
 abbrev Claims : (s old : List ℕ) (code value : ℕ) (new : List ℕ) → Type 0
-Claims s old code value new = Demand1 s old code value new × (BandDemand s code new × ResultBounded s code new)
+Claims s old code value new = Demand1 s old code value new × (BandDemand s code new × (WholeDemand s code new × ResultBounded s code new))
 
 -- the contract of the call, from what it answers and leaves; the record is one of bytes
 module _ (s old : List ℕ) (byte : Fits w8 (getD s 2 0)) where
@@ -46,8 +47,10 @@ module _ (s old : List ℕ) (byte : Fits w8 (getD s 2 0)) where
       let c = code-is o r (h .answer) in
       let v = value-is o r (h .answer) in
       let n = h .lent in
-      let loops-byte : getD s 2 0 < 256 = omega (arith, byte) in
-      (h .answer, (n, (rw (c, v, n) (demand-1 s old loops-byte), (rw (c, n) (demand-3 s old), rw (c, n) (result-bounded s old)))))
+      let loops-byte : getD s 2 0 < 256 = omega (arith, byte) in (
+        h .answer,
+        (n, (rw (c, v, n) (demand-1 s old loops-byte), (rw (c, n) (demand-3 s old), (rw (c, n) (whole-demand s old), rw (c, n) (result-bounded s old))))),
+      )
 
 -- what is promised of an answer, of the two numbers that are told of it
 pub paired : (o : Outcome) (s old : List ℕ) {r : Answer} {new : List ℕ} {number at : ℕ} → number ≡ codeOf r → at ≡ valueOf r

@@ -2,7 +2,7 @@
 ghost use mathlib.Core.Path.{_≡_};
 ghost use lib.ListN.{length};
 ghost use Rattle.records.specs.Call.{code, value as valueIn, lentAfter};
-ghost use Rattle.judgement.specs.Demands.{Demand1, BandDemand};
+ghost use Rattle.judgement.specs.Demands.{Demand1, BandDemand, WholeDemand};
 ghost use Rattle.judgement.specs.Judge.{judge};
 ghost use Rattle.magnitudes.specs.Bounded.{ResultBounded};
 ghost use Rattle.closer.specs.Returned.{codeOf, valueOf};
@@ -36,6 +36,7 @@ pub extern "C" fn closer_close_face(record: &[u8], result: &mut [u8], value: &mu
     ensures { λ _. ⌜ now (result .exit) ≡ lentAfter (judge (length (now (result .entry))) (now («record» .entry))) (now (result .entry)) ⌝ }
     ensures { λ r. ⌜ Demand1 (now («record» .entry)) (now (result .entry)) r (now (value .exit)) (now (result .exit)) ⌝ }
     ensures { λ r. ⌜ BandDemand (now («record» .entry)) r (now (result .exit)) ⌝ }
+    ensures { λ r. ⌜ WholeDemand (now («record» .entry)) r (now (result .exit)) ⌝ }
     ensures { λ r. ⌜ ResultBounded (now («record» .entry)) r (now (result .exit)) ⌝ }
 {
     let answer = close_face(record, result);

@@ -134,12 +134,12 @@ module _ (lent : ℕ) (s b : List ℕ) (h : judge lent s ≡ closed b) where
   few-corners = fine .corners
 
   -- the loops that are read from the lent bytes, whatever stands behind the record
-  read-loops : (rest : List ℕ) → loopPositionsOf (decode (b ++ rest)) ≡ map (λ (l : ResultLoop). positions (l .corners)) (resultLoops s)
+  pub read-loops : (rest : List ℕ) → loopPositionsOf (decode (b ++ rest)) ≡ map (λ (l : ResultLoop). positions (l .corners)) (resultLoops s)
   unfolding resultIn
   read-loops rest =
       ap loopPositionsOf (closed-read laterConditions resultIn lent s b h can-be-written rest) ∙ loop-positions uvOf xyzOf (pathIn s) (resultLoops s)
 
-  written : b ≡ result s
+  pub written : b ≡ result s
   written = closed-exactly laterConditions result lent s b .0 h .1
 
   -- ---- demand 1, of a face that is closed

@@ -1,20 +1,25 @@
--- The demands 1 and 3, as claims about one call: the face record s, the lent bytes before the call (old) and after it (new), and the pair that it returns,
--- code and value. 01: "The call returns 0 and the length", or the refusal and its place.
+-- The demands 1 and 3, and what 02, N2, adds of whole surfaces, as claims about one call: the face record s, the lent bytes before the call (old) and after
+-- it (new), and the pair that it returns, code and value. 01: "The call returns 0 and the length", or the refusal and its place.
 use Prim.Native.Nat.{ℕ, _^_, _≤_, _<_}
 use mathlib.Core.Path.{_≡_}
+use mathlib.Core.Bool.{true}
 use mathlib.Core.Logic.{_↔_}
 use mathlib.Core.List.{List, [], map}
+use lib.IntN.{pos}
 use lib.ListN.{length, getD, drop}
 use Rattle.numbers.specs.Position.{same}
 use Rattle.numbers.specs.declared.math.Vec3.{Vec3}
+use Rattle.surfaces.specs.Domains.{domainOf}
+use Rattle.loops.specs.Steps.{net}
+use Rattle.whole.specs.Boundary.{isWhole, usOf, vsOf, FourCorners}
 use Rattle.bands.specs.Corners.{positions}
 use Rattle.bands.specs.Demand.{Demand3}
 use Rattle.records.specs.Bytes.{byteAt}
-use Rattle.records.specs.Face.{loopPositions}
+use Rattle.records.specs.Face.{loops, loopPositions}
 use Rattle.records.specs.Limits.{resultBytes}
 use Rattle.records.specs.Refusals.{FirstToHold, NoneHolds}
 use Rattle.records.specs.Result.{decode, resultLength, holesIn, cornersIn, loopPositionsOf}
-use Rattle.judgement.specs.Face.{loopsIn, wrapping, settingIn, givenIn}
+use Rattle.judgement.specs.Face.{surfaceIn, loopsIn, wrapping, settingIn, givenIn}
 use Rattle.judgement.specs.Judge.{allConditions}
 use Rattle.judgement.specs.Paths.{resultIn}
 
@@ -74,3 +79,18 @@ pub record BandDemand (s : List ℕ) (code : ℕ) (new : List ℕ) : Type 0 wher
   pub two-wrap : code ≡ 0 → 0 < wrapping s → wrapping s ≡ 2
   -- "Demand 3 is a single claim about a returned band and its strip": of every face that is closed and of which two loops wrap
   pub band : code ≡ 0 → wrapping s ≡ 2 → Demand3 (settingIn s) (givenIn s) (outerPositions new) (holePositions new)
+
+-- ---- whole surfaces
+
+-- Of every face that is closed and has no loop: "For a whole sphere or torus the step count of every pair of positions is then zero." (02, N2)
+pub record WholeDemand (s : List ℕ) (code : ℕ) (new : List ℕ) : Type 0 where
+  -- "byte 1 path (0 closed, 1 wrapped, 2 whole surface)": of a face that is closed it is 2 exactly where the record has no loop
+  pub path-is : code ≡ 0 → (byteAt new 1 ≡ 2 ↔ loops s ≡ 0)
+  -- "Sphere and torus only"
+  pub kind-is : code ≡ 0 → loops s ≡ 0 → isWhole (surfaceIn s) ≡ true
+  pub no-hole : code ≡ 0 → loops s ≡ 0 → holePositions new ≡ []
+  pub still : code ≡ 0 → loops s ≡ 0 → (p q : Vec3) → net same p q (outerPositions new) ≡ pos 0
+  -- "`merge_even` now ends on its upper bound itself": the four corners of the domain are among the parameters that are read from the lent bytes. There are as
+  -- many of these as of the positions; which belongs to which is `read-back` of demand 1.
+  pub corners : code ≡ 0 → loops s ≡ 0 → FourCorners (domainOf (surfaceIn s)) (usOf (decode new .parameters)) (vsOf (decode new .parameters))
+  pub in-pairs : code ≡ 0 → loops s ≡ 0 → length (outerPositions new) ≡ length (decode new .parameters)

@@ -5,3 +5,4 @@ pub mod Closed
 pub mod Whole
 pub mod Bands
 pub mod Theorem
+pub mod Still
