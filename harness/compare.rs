@@ -27,6 +27,8 @@ mod regions;
 mod report;
 mod results;
 mod shapes;
+#[cfg(closer)]
+mod steps;
 mod surfaces;
 mod triangle;
 mod values;
