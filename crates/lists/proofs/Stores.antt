@@ -5,7 +5,7 @@ use mathlib.Core.List.{List, [], _∷_, _++_, append-nil}
 use native.Mathlib.Omega.{arith}
 use lib.Dec.{ltb}
 use lib.ListN.{length, getD, take, drop, set, length-take, length-set, take-append-drop, List·getD-append}
-use lib.Seq.{sets, length-take-le, getD-take, sets-eq, set-out, take-nil, take-set-lt, drop-set-lt, drop-length}
+use lib.Seq.{sets, length-sets, length-take-le, getD-take, sets-eq, set-out, take-nil, take-set-lt, drop-set-lt, drop-length}
 use borrow.Author.Tests.{ltb-true, ltb-false}
 use mathlib.Core.Bool.{Bool, true, false}
 
@@ -56,11 +56,12 @@ module _ {A : Type 0} where
       sym (sets-room l 0 (length l) vs k) ∙ sets-whole l (take (length l) vs) e
 
   -- a place that is stored to
-  pub sets-at : (l vs : List A) (k : ℕ) (z : A) → k < length l → k < length vs → getD (sets l 0 vs) k z ≡ getD vs k z
-  sets-at l vs k z h i =
+  pub sets-at : (l vs out : List A) (k : ℕ) (z : A) → out ≡ sets l 0 vs → k < length out → k < length vs → getD out k z ≡ getD vs k z
+  sets-at l vs out k z e h i =
       let n = length l in
       let w = take n vs in
       let m = length-take n vs in
+      let long : length out ≡ n = ap length e ∙ length-sets l 0 vs in
       let fits : 0 + length w ≤ length l = omega arith in
-      ap (λ (x : List A). getD x k z) (sym (sets-room l 0 n vs (omega arith)) ∙ sets-eq w l 0 fits) ∙ List·getD-append w (drop (0 + length w) l) z k (omega arith)
-      ∙ getD-take n vs k z h
+      ap (λ (x : List A). getD x k z) (e ∙ sym (sets-room l 0 n vs (omega arith)) ∙ sets-eq w l 0 fits)
+      ∙ List·getD-append w (drop (0 + length w) l) z k (omega arith) ∙ getD-take n vs k z (omega arith)

@@ -8,7 +8,7 @@ use native.Mathlib.Nat.{not-suc-le-zero, le-of-suc-le-suc}
 use native.Mathlib.Omega.{arith}
 use lib.Dec.{T}
 use lib.ListN.{length, getD, drop, length-append, length-drop}
-use lib.Seq.{sets, length-sets, getD-drop}
+use lib.Seq.{sets, getD-drop}
 use lib.Ieee.{Float, nan, fin, binary64, mul, le, eq, ne, fits, ofBits}
 use lib.Ieee.Scale.{finite}
 use Rattle.lists.proofs.Stores.{sets-at}
@@ -81,10 +81,9 @@ module _ (lo hi : Float) (n : ℕ) where
   pub end-written : (from : ℕ) (os out : List Float) → out ≡ sets os 0 (drop from (rungs lo hi n)) → EndWritten lo hi n from out
   end-written from os out e h k at room =
       let xs = drop from (rungs lo hi n) in
-      let long : length out ≡ length os = ap length e ∙ length-sets os 0 xs in
       let many : length xs ≡ suc k = length-drop from (rungs lo hi n) ∙ omega arith in
       let last : from + k ≡ length (rungs lo hi n) - 1 = omega arith in
-      ap (λ (l : List Float). getD l k nan) e ∙ sets-at os xs k nan (omega arith) (omega arith) ∙ getD-drop from (rungs lo hi n) k nan
+      sets-at os xs out k nan e room (omega arith) ∙ getD-drop from (rungs lo hi n) k nan
       ∙ ap (λ (j : ℕ). getD (rungs lo hi n) j nan) last ∙ last-rung h
 
   -- the inner rungs are those of the divisions kept: no wall of a band moves

@@ -6,7 +6,7 @@ use mathlib.Core.List.{List, [], _∷_, _++_, reverse, dropLast, reverse-append}
 use native.Mathlib.Omega.{arith}
 use lib.Ieee.{Float, nan, ne}
 use lib.ListN.{length, getD, drop, replicate, length-append, length-map, length-replicate}
-use lib.Seq.{sets, length-sets, getD-append-seam, getD-append-add}
+use lib.Seq.{sets, getD-append-seam, getD-append-add}
 use Rattle.lists.proofs.Elements.{length-dropLast}
 use Rattle.lists.proofs.Stores.{sets-at}
 use Rattle.numbers.specs.declared.math.Interval.{Interval}
@@ -66,13 +66,14 @@ module _ (s : Surface) (o : Resolved) where
       let are = u-are h in
       let back = read-back _ (inner us) (ui .hi) are in
       let some = two-or-more _ (inner us) (ui .hi) are in
-      let long : length out ≡ length os = ap length e ∙ length-sets os 0 cs in
       let total = length-map (sides us vs ui vi) (λ (c : Vec2). c .u) ∙ length-sides us vs ui vi in
-      let place : k ≡ length (dropLast us) + length (replicate n (ui .hi)) = at ∙ (let a = length-dropLast us in let b = length-replicate n (ui .hi) in omega arith) in
-      ap (λ (l : List Float). getD l k nan) e ∙ sets-at os cs k nan (omega arith) (omega arith)
+      let low = replicate n (ui .lo) in
+      let high = replicate n (ui .hi) in
+      let place : k ≡ length (dropLast us) + length high = at ∙ (let a = length-dropLast us in let b = length-replicate n (ui .hi) in omega arith) in
+      sets-at os cs out k nan e room (omega arith)
       ∙ (λ i. getD (us-of-sides us vs ui vi n refl i) (place i) nan)
-      ∙ ap (λ (l : List Float). getD (dropLast us ++ (replicate n (ui .hi) ++ (l ++ replicate n (ui .lo)))) (length (dropLast us) + length (replicate n (ui .hi))) nan) back
-      ∙ third-first (dropLast us) (replicate n (ui .hi)) (ui .hi) (reverse (inner us)) (replicate n (ui .lo))
+      ∙ ap (λ (l : List Float). getD (dropLast us ++ (high ++ (l ++ low))) (length (dropLast us) + length high) nan) back
+      ∙ third-first (dropLast us) high (ui .hi) (reverse (inner us)) low
 
   pub v-column : (os out : List Float) → out ≡ sets os 0 (vsOf (sidesOf s o)) → VColumnEnds s o out
   unfolding sidesOf
@@ -82,13 +83,12 @@ module _ (s : Surface) (o : Resolved) where
       let are = v-are h in
       let back = read-back _ (inner vs) (vi .hi) are in
       let some = two-or-more _ (inner vs) (vi .hi) are in
-      let long : length out ≡ length os = ap length e ∙ length-sets os 0 cs in
       let total = length-map (sides us vs ui vi) (λ (c : Vec2). c .v) ∙ length-sides us vs ui vi in
       let low = replicate n (vi .lo) in
       let high = replicate n (vi .hi) in
       let place : k ≡ length low + (length (dropLast vs) + length high) =
       at ∙ (let a = length-dropLast vs in let b = length-replicate n (vi .lo) in let c = length-replicate n (vi .hi) in omega arith) in
-      ap (λ (l : List Float). getD l k nan) e ∙ sets-at os cs k nan (omega arith) (omega arith)
+      sets-at os cs out k nan e room (omega arith)
       ∙ (λ i. getD (vs-of-sides us vs ui vi n refl i) (place i) nan)
       ∙ ap (λ (l : List Float). getD (low ++ (dropLast vs ++ (high ++ l))) (length low + (length (dropLast vs) + length high)) nan) back
       ∙ fourth-first low (dropLast vs) high (vi .hi) (reverse (inner vs))
