@@ -62,7 +62,7 @@ UEnds s o k = EndsOn (domainOf s .u .lo) (domainOf s .u .hi) k (uRungs s o)
 abbrev pub VEnds : Surface → Resolved → ℕ → Type 0
 VEnds s o k = EndsOn (domainOf s .v .lo) (domainOf s .v .hi) k (vRungs s o)
 
--- of a sphere or a torus, n corners are those of k rungs and then the bound in u, and of m rungs and then the bound in v, each read twice
+-- of a sphere or a torus, n is twice k + m, where the rungs of u are k and then the bound, and those of v are m and then the bound
 abbrev pub CountEnds : Surface → Resolved → ℕ → Type 0
 CountEnds s o n = isWhole s ≡ true → (k : ℕ) × (m : ℕ) × (n ≡ 2 * (k + m)) × UEnds s o k × VEnds s o m
 
