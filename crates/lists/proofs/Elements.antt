@@ -37,6 +37,12 @@ module _ {A : Type 0} where
       let n : length (x ∷ y ∷ xs) - 1 ≡ suc (length (y ∷ xs) - 1) = omega arith in
       rw n (ap (λ (l : List A). x ∷ l) (dropLast-take (y ∷ xs)))
 
+  -- one more element, taken off again
+  pub dropLast-snoc : (xs : List A) (z : A) → dropLast (xs ++ (z ∷ [])) ≡ xs
+  dropLast-snoc [] z = refl
+  dropLast-snoc (x ∷ []) z = refl
+  dropLast-snoc (x ∷ y ∷ xs) z = ap (λ (l : List A). x ∷ l) (dropLast-snoc (y ∷ xs) z)
+
   -- a stretch: its start cut off before its end or after
   pub drop-take : (k n : ℕ) (xs : List A) → drop k (take n xs) ≡ take (n - k) (drop k xs)
   drop-take zero n xs = let e : n - 0 ≡ n = omega arith in rw e

@@ -4,6 +4,7 @@ pub mod Paths
 pub mod Alike
 pub mod RepeatsLaw
 pub mod RingLaw
+pub mod Turns
 pub mod StripLaw
 pub mod Projections
 pub mod SamePosition
