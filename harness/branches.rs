@@ -33,8 +33,8 @@ BANDS:
     RingReversed RingShifted MinusZeroShifted WrapsTwice WrapsMore
     FirstRingOfThree LaterRingOfThree
     // reseam
-    HoleBroughtOn HoleAcross NoGap NoPointPastCut RingRecut OneRingRecut BothRingsRecut
-    HoleStillAcross
+    HoleBroughtOn HoleAcross NoGap NoPointPastCut FirstPointPastCut RingRecut OneRingRecut
+    BothRingsRecut RingOfThreeRecut RecutAtWrapTwo TwoComeRound HoleStillAcross
     // the start search
     StartBackward StartOnSeam RingTooShortToTurn FirstStart LaterStart
     NoStart NoStartForward NoStartBackward LaterRingTurned LaterRingSlid

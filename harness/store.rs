@@ -23,7 +23,7 @@ mod original {
     include!(env!("ORIGINAL"));
 }
 
-use branches::{BANDS, LIMITS, NUMBER, REGIONS, face_done};
+use branches::{BANDS, Branch, LIMITS, NUMBER, REGIONS, face_done};
 use calls::{Call, call};
 use judge::{Answer, judge, six_bytes};
 use random::Random;
@@ -34,6 +34,10 @@ const CANDIDATES: usize = 100_000;
 /// Faces of at most so many bytes, with their answers, are kept where they meet something that was
 /// kept fewer times than this.
 const ROUNDS: [(usize, usize); 3] = [(1_000, 12), (4_000, 4), (usize::MAX, 2)];
+
+/// Then bands of at most so many bytes of which two points or more of a ring came round a new cut
+/// (02, N4), up to so many of them.
+const CUT_ANEW: (usize, usize) = (2_000, 60);
 
 /// Then small faces of a path are kept, bands before the others, up to so many faces in all.
 const SMALL: usize = 1_000;
@@ -121,6 +125,15 @@ fn chosen(candidates: Vec<Stored>) -> Vec<Stored> {
         }
     }
     hold_all_met(&times);
+    let (most, wanted) = CUT_ANEW;
+    let at_stake = Meeting::Branch(Branch::TwoComeRound as usize);
+    let mut number = times[&at_stake];
+    for (one, kept) in candidates.iter().zip(&mut kept) {
+        if number < wanted && !*kept && one.meets.contains(&at_stake) && one.size() <= most {
+            *kept = true;
+            number += 1;
+        }
+    }
     let mut number = kept.iter().filter(|kept| **kept).count();
     for path in PATHS {
         for (one, kept) in candidates.iter().zip(&mut kept) {

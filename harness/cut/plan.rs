@@ -37,6 +37,7 @@ const ITEM_2: &str = "item 2 (acos)";
 const ITEM_3: &str = "item 3 (min, max)";
 const ITEM_5: &str = "item 5 (repeats)";
 const REQUEST_2: &str = "02, N2 (the last rung is the end)";
+const REQUEST_4: &str = "02, N4 (a ring is cut anew without its repeated last point)";
 const COUNTS: &str = "counts of the branches met";
 const ONE_RING: &str = "the one-ring branch, which refusal 9 stands before";
 const PATHS: &str = "paths to other crates";
@@ -293,7 +294,38 @@ fn bands() -> Vec<Cut> {
                 "if noted(Branch::NoGap, best_gap <= 0.0 || cut <= u0 || cut >= u0 + period)",
             )
             .count("else { continue; }", "else { met(Branch::NoPointPastCut); continue; }")
-            .count("r.uv.rotate_left(k)", "met(Branch::RingRecut); r.uv.rotate_left(k)")
+            .count("if k == 0 ||", "if noted(Branch::FirstPointPastCut, k == 0) ||")
+            .count(
+                "r.uv.rotate_left(k)",
+                "met(Branch::RingRecut);
+                noted(Branch::RingOfThreeRecut, n == 3);
+                noted(Branch::RecutAtWrapTwo, r.wrap.abs() >= 2);
+                noted(Branch::TwoComeRound, k >= 2);
+                r.uv.rotate_left(k)",
+            )
+            .replace(
+                REQUEST_4,
+                "let n = r.uv.len()",
+                "let n = r.uv.len(); let open = n.saturating_sub(1)",
+                1,
+            )
+            .replace(REQUEST_4, "(0..n)", "(0..open)", 1)
+            .replace(
+                REQUEST_4,
+                "r.uv.rotate_left(k)",
+                "r.uv.truncate(open); r.xyz.truncate(open); r.uv.rotate_left(k)",
+                1,
+            )
+            .replace(REQUEST_4, "r.uv[n - k..]", "r.uv[open - k..]", 1)
+            .replace(
+                REQUEST_4,
+                "r.area = signed_area(&r.uv)",
+                "let (first, at) = (r.uv[0], r.xyz[0]);
+                r.uv.push(Vec2::new(first.u + period, first.v));
+                r.xyz.push(at);
+                r.area = signed_area(&r.uv)",
+                1,
+            )
             .count(
                 "onto(holes, cut)",
                 "onto(holes, cut); noted(Branch::HoleStillAcross, straddles(holes, cut))",

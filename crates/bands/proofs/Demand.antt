@@ -1,7 +1,7 @@
 -- Demand 3 holds of a band as it is defined.
 use Prim.Native.Nat.{ℕ, _+_, _<_}
 use mathlib.Core.Path.{_≡_, refl, sym, ap, _∙_, subst}
-use mathlib.Core.Bool.{Bool, true, false, cond, not, _||_, true≢false}
+use mathlib.Core.Bool.{Bool, true, false, cond, not, _||_}
 use mathlib.Core.List.{List, [], _∷_, _++_, map, reverse, map-map, map-append}
 use mathlib.Core.Logic.{inl, inr}
 use native.Mathlib.Omega.{arith}
@@ -17,18 +17,20 @@ use Rattle.loops.specs.Rings.{begun, closed, turned, unchanged, endsMeet}
 use Rattle.loops.proofs.Paths.{net-reverse}
 use Rattle.loops.proofs.StripLaw.{net-strip}
 use Rattle.loops.proofs.RingLaw.{net-turned, ends-reverse}
+use Rattle.loops.proofs.Turns.{turned-twice}
 use Rattle.loops.proofs.RepeatsLaw.{net-dropRepeats}
 use Rattle.loops.proofs.Projections.{map-dropRepeats}
 use Rattle.bands.specs.Corners.{Corner, Corners, us, positions, moveU, moveV}
-use Rattle.rings.specs.Choices.{firstOf, nearest}
-use Rattle.rings.specs.Turns.{beginRingAt, turnedOnto, alignAt}
+use Rattle.rings.specs.Choices.{firstOf, firstOpenPast, nearest}
+use Rattle.rings.specs.Turns.{beginRingAt, recutAt, turnedOnto, alignAt}
 use Rattle.rings.specs.Starts.{start}
-use Rattle.rings.proofs.Carried.{map-unchanged, unless-unchanged, map-cond, map-unlessZero, map-beginRingAt, map-alignAt}
+use Rattle.rings.proofs.Carried.{map-unchanged, unless-unchanged, map-cond, map-unlessZero, map-beginRingAt, map-recutAt, map-alignAt}
 use Rattle.bands.specs.Given.{Loop, Given}
-use Rattle.bands.specs.Rings.{Face, rising, shifted, laid, raised, seam, onto, onStrip, acrossSeam, gapOf, cutAnew, hasStrip, hasGap, reseam, alignCuts, slideToCut, trial, started}
+use Rattle.bands.specs.Rings.{Face, rising, shifted, laid, raised, seam, onto, onStrip, acrossSeam, gapOf, recut, cutAnew, hasStrip, hasGap, reseam, alignCuts, slideToCut, trial, started}
 use Rattle.bands.specs.Strip.{Setting, heights, wall, strip}
 use Rattle.bands.specs.Band.{pick, pickLoop, joined, lowerFirst, lower, upper, lowerRing, upperRing, stripOf, outer, holes}
 use Rattle.bands.specs.Demand.{ring, Turn, Whole, Demand3}
+use Rattle.bands.proofs.Recut.{recut-is}
 use Rattle.bands.proofs.Lengths.{lengths-each, length-first, length-later}
 
 module _ {A : Type 0} where
@@ -59,6 +61,17 @@ module _ {A : Type 0} where
       subst (λ (ys : List A). Turn xs (cond (ltb (length xs) 3) xs (closed unchanged ys))) (sym (map-unchanged (begun unchanged k _)))
       (turn-if (ltb (length xs) 3) k xs)
 
+  recut-turn : (k : ℕ) (xs : List A) → Turn xs (recutAt unchanged k xs)
+  unfolding recutAt
+  recut-turn k xs = turn-if (eqb k 0 || ltb (length xs) 2) k xs
+
+  -- two turns are one
+  turn-on : (xs ys zs : List A) → Turn xs ys → Turn ys zs → Turn xs zs
+  turn-on xs ys zs (inl e) t = subst (λ (l : List A). Turn l zs) e t
+  turn-on xs ys zs (inr (k, e)) (inl d) = inr (k, d ∙ e)
+  turn-on xs ys zs (inr (k, e)) (inr (j, d)) =
+      let once = turned-twice j k xs in inr (once .0, d ∙ ap (turned unchanged j) e ∙ once .1)
+
   -- a turn of a ring whose ends meet has its counts
   module _ (same : A → A → Bool) (P : PartialEquivalence same) where
     net-turn : (a b : A) (xs ys : List A) → Turn xs ys → endsMeet same xs ≡ true → net same a b ys ≡ net same a b xs
@@ -88,16 +101,31 @@ module _ {A : Type 0} (period : Float) where
   unfolding laid shifted
   laid-later given = unmoved-u _ (rising (given .later)) ∙ rising-is (given .later)
 
-  -- where no hole is across `reseam` leaves the rings
-  reseam-part : {B : Type 0} (part : Face A → B) (face : Face A) → acrossSeam period face ≡ false → part (onStrip period face) ≡ part face
-      → part (reseam period face) ≡ part face
+  -- `reseam` leaves a ring or cuts it anew
+  recuts-turn : (cut : Float) (r : Corners A) → Turn (positions r) (positions (recut period cut r))
+  recuts-turn cut r =
+      let k = firstOpenPast cut (us r) in
+      let turned : positions (recut period cut r) ≡ recutAt unchanged k (positions r) =
+      ap positions (recut-is cut r period) ∙ map-recutAt at (raised period) unchanged (λ c. refl) k r in
+      subst (Turn (positions r)) (sym turned) (recut-turn k (positions r))
+
+  reseam-turn : (part : Face A → Corners A) (face : Face A) → part (onStrip period face) ≡ part face
+      → part (cutAnew period face) ≡ recut period (gapOf period face .cut) (part face) → Turn (positions (part face)) (positions (part (reseam period face)))
   unfolding reseam
-  reseam-part {B} part face clear e = outcome (hasStrip period face) (acrossSeam period face) (hasGap period face) clear
+  reseam-turn part face e d = outcome (hasStrip period face) (acrossSeam period face) (hasGap period face)
     where
-      outcome : (s t b : Bool) → t ≡ false → part (cond s (cond t (cond b (cutAnew period face) (onStrip period face)) (onStrip period face)) face) ≡ part face
-      outcome false t b h = refl
-      outcome true false b h = e
-      outcome true true b h = absurd (true≢false h)
+      kept : Turn (positions (part face)) (positions (part (onStrip period face)))
+      kept = inl (ap positions e)
+
+      anew : Turn (positions (part face)) (positions (part (cutAnew period face)))
+      anew = subst (λ (r : Corners A). Turn (positions (part face)) (positions r)) (sym d) (recuts-turn (gapOf period face .cut) (part face))
+
+      outcome : (s t b : Bool)
+          → Turn (positions (part face)) (positions (part (cond s (cond t (cond b (cutAnew period face) (onStrip period face)) (onStrip period face)) face)))
+      outcome false t b = inl refl
+      outcome true false b = kept
+      outcome true true false = kept
+      outcome true true true = anew
 
   -- what a corner keeps when it is moved in u, no step changes in a hole
   module _ {B : Type 0} (part : Corner A → B) (kept : (f : Float → Float) (c : Corner A) → part (moveU f c) ≡ part c) where
@@ -188,21 +216,22 @@ module _ {A : Type 0} (S : Setting A) where
   pub holes-as-many : (given : Given A) → length (holes S given) ≡ length (given .holes)
   holes-as-many given = sym (length-map (holes S given) length) ∙ ap length (holes-counts given) ∙ length-map (given .holes) length
 
-  module _ (given : Given A) (clear : acrossSeam (S .period) (laid (S .period) given) ≡ false) where
+  module _ (given : Given A) where
     first-turn : Turn (ring (given .first)) (positions (joined S given .first))
-    unfolding joined started trial onStrip
+    unfolding joined started trial onStrip cutAnew
     first-turn =
-        let f = reseam (S .period) (laid (S .period) given) in
-        let e = reseam-part (S .period) (λ (x : Face A). positions (x .first)) (laid (S .period) given) clear refl ∙ laid-first (S .period) given in
-        subst (λ (xs : List A). Turn xs (positions (joined S given .first))) e (begun-turn (S .period) (start (S .period) (us (f .first)) (us (f .later))) (f .first))
+        let f = laid (S .period) given in
+        let g = reseam (S .period) f in
+        let cut = subst (λ (xs : List A). Turn xs (positions (g .first))) (laid-first (S .period) given) (reseam-turn (S .period) (λ (x : Face A). x .first) f refl refl) in
+        turn-on _ _ _ cut (begun-turn (S .period) (start (S .period) (us (g .first)) (us (g .later))) (g .first))
 
     later-turn : Turn (ring (given .later)) (positions (joined S given .later))
-    unfolding joined started trial onStrip
+    unfolding joined started trial onStrip cutAnew
     later-turn =
-        let f = reseam (S .period) (laid (S .period) given) in
-        let e = reseam-part (S .period) (λ (x : Face A). positions (x .later)) (laid (S .period) given) clear refl ∙ laid-later (S .period) given in
-        subst (λ (xs : List A). Turn xs (positions (joined S given .later))) e
-        (aligned-turn (S .period) (firstOf (us (beginRingAt (raised (S .period)) (start (S .period) (us (f .first)) (us (f .later))) (f .first)))) (f .later))
+        let f = laid (S .period) given in
+        let g = reseam (S .period) f in
+        let cut = subst (λ (xs : List A). Turn xs (positions (g .later))) (laid-later (S .period) given) (reseam-turn (S .period) (λ (x : Face A). x .later) f refl refl) in
+        turn-on _ _ _ cut (aligned-turn (S .period) (firstOf (us (beginRingAt (raised (S .period)) (start (S .period) (us (g .first)) (us (g .later))) (g .first)))) (g .later))
 
     pick-turn : (t : Bool) → Turn (ring (pickLoop t given)) (positions (pick t (joined S given)))
     pick-turn true = first-turn
@@ -297,16 +326,16 @@ module _ {A : Type 0} (S : Setting A) (P : PartialEquivalence (S .same)) (given 
         holes-are = holes-are S given;
         lower-turned = low;
         upper-turned = up;
-        counts = λ clear a b.
+        counts = λ a b.
             ap (steps a b) (outer-is S given) ∙ net-dropRepeats (S .same) P a b (positions (stripOf S given))
-            ∙ ap (steps a b) strip-of ∙ strip-steps w a b l L u U (low clear) (up clear);
+            ∙ ap (steps a b) strip-of ∙ strip-steps w a b l L u U low up;
       }
         where
           strip-of : positions (stripOf S given) ≡ positions (strip S (l ∷ L) (u ∷ U))
           strip-of = stripped l L u U le ue
 
-          low : acrossSeam (S .period) (laid (S .period) given) ≡ false → Turn (ring (lower S given)) (positions (l ∷ L))
-          low clear = subst (λ (r : Corners A). Turn (ring (lower S given)) (positions r)) le (lower-turn S given clear)
+          low : Turn (ring (lower S given)) (positions (l ∷ L))
+          low = subst (λ (r : Corners A). Turn (ring (lower S given)) (positions r)) le (lower-turn S given)
 
-          up : acrossSeam (S .period) (laid (S .period) given) ≡ false → Turn (ring (upper S given)) (positions (u ∷ U))
-          up clear = subst (λ (r : Corners A). Turn (ring (upper S given)) (positions r)) ue (upper-turn S given clear)
+          up : Turn (ring (upper S given)) (positions (u ∷ U))
+          up = subst (λ (r : Corners A). Turn (ring (upper S given)) (positions r)) ue (upper-turn S given)

@@ -1,19 +1,20 @@
 -- No step before the strip changes how many points a loop has.
 use Prim.Native.Nat.{ℕ}
-use mathlib.Core.Path.{_≡_, refl, _∙_}
+use mathlib.Core.Path.{_≡_, refl, ap, _∙_}
 use mathlib.Core.Bool.{Bool, true, false, cond}
 use mathlib.Core.List.{List, [], _∷_, map, reverse}
 use lib.Ieee.{Float, nan}
 use lib.ListN.{length, getD, length-map, length-reverse}
 use Rattle.numbers.specs.Rounded.{_⊕_, _⊖_}
 use Rattle.loops.specs.Branch.{branchShift}
-use Rattle.rings.specs.Choices.{firstOf, firstPast, nearest}
+use Rattle.rings.specs.Choices.{firstOf, firstOpenPast, nearest}
 use Rattle.rings.specs.Turns.{beginRingAt}
 use Rattle.rings.specs.Starts.{start}
-use Rattle.rings.proofs.Lengths.{length-if, length-begun, length-beginRingAt, length-alignAt, length-unlessZero}
+use Rattle.rings.proofs.Lengths.{length-if, length-beginRingAt, length-recutAt, length-alignAt, length-unlessZero}
 use Rattle.bands.specs.Corners.{Corners, us, moveU}
 use Rattle.bands.specs.Given.{Loop, Given}
 use Rattle.bands.specs.Rings.{Face, rising, raised, lessU, shifted, laid, recut, onStrip, cutAnew, hasStrip, acrossSeam, hasGap, reseam, alignCuts, slideToCut, trial, started}
+use Rattle.bands.proofs.Recut.{recut-is}
 
 -- a column of some lists has as many elements in each as the list has
 pub lengths-each : {A B : Type 0} (f : A → B) (xss : List (List A)) → map length (map (map f) xss) ≡ map length xss
@@ -36,8 +37,7 @@ module _ (period : Float) {A : Type 0} where
   length-shifted least r = length-map r _
 
   length-recut : (cut : Float) (r : Corners A) → length (recut period cut r) ≡ length r
-  unfolding recut
-  length-recut cut r = length-begun (raised period) (firstPast cut (us r)) r
+  length-recut cut r = ap length (recut-is cut r period) ∙ length-recutAt (raised period) (firstOpenPast cut (us r)) r
 
   pub lengths-reseam : (face : Face A) → SameLengths (reseam period face) face
   unfolding reseam onStrip cutAnew

@@ -2,7 +2,7 @@
 use Prim.Native.Nat.{ℕ, _<_}
 use mathlib.Core.Path.{_≡_}
 use mathlib.Core.Logic.{_⊎_}
-use mathlib.Core.Bool.{true, false, cond}
+use mathlib.Core.Bool.{true, cond}
 use mathlib.Core.List.{List, _∷_, _++_, map, reverse}
 use lib.IntN.{_+ℤ_}
 use lib.ListN.{length}
@@ -11,7 +11,6 @@ use Rattle.loops.specs.Repeats.{dropRepeats}
 use Rattle.loops.specs.Rings.{turned, unchanged, endsMeet}
 use Rattle.bands.specs.Corners.{Corner, Corners, positions}
 use Rattle.bands.specs.Given.{Loop, Given}
-use Rattle.bands.specs.Rings.{laid, acrossSeam}
 use Rattle.bands.specs.Strip.{Setting, heights}
 use Rattle.bands.specs.Band.{lower, upper, lowerRing, upperRing, stripOf}
 
@@ -21,7 +20,7 @@ module _ {A : Type 0} where
   unfoldable pub ring : Loop A → List A
   ring l = cond (l .falls) (reverse (positions (l .corners))) (positions (l .corners))
 
-  -- ys is the ring xs, as it is or begun at another of its points
+  -- ys is the ring xs as it is, or begun at one of its open points (at the first, where k is past them) and closed with that point's position
   abbrev pub Turn : List A → List A → Type 0
   Turn xs ys = (ys ≡ xs) ⊎ ((k : ℕ) × (ys ≡ turned unchanged k xs))
 
@@ -50,9 +49,8 @@ pub record Demand3 {A : Type 0} (S : Setting A) (given : Given A) (outer : List 
   pub outer-is : outer ≡ dropRepeats (S .same) (positions (stripOf S given))
   -- "A hole is a loop that does not wrap; each is in the result once, its given positions unchanged to the bit and in file order."
   pub holes-are : holes ≡ map positions (given .holes)
-  -- where no hole lies across the seam: the rings are those given, as they are or begun at another of their points, and the counts are theirs. Of rings
-  -- that are cut anew for a hole across it nothing more is claimed.
-  pub lower-turned : acrossSeam (S .period) (laid (S .period) given) ≡ false → Turn (ring (lower S given)) (positions (l ∷ L))
-  pub upper-turned : acrossSeam (S .period) (laid (S .period) given) ≡ false → Turn (ring (upper S given)) (positions (u ∷ U))
-  pub counts : acrossSeam (S .period) (laid (S .period) given) ≡ false → (a b : A)
-      → net (S .same) a b outer ≡ net (S .same) a b (ring (lower S given)) +ℤ net (S .same) a b (reverse (ring (upper S given)))
+  -- 02, N4: "bands match their rings' boundary wherever the holes lie": the rings of the strip are those given, as they are or begun at one of their
+  -- points, and the counts are theirs
+  pub lower-turned : Turn (ring (lower S given)) (positions (l ∷ L))
+  pub upper-turned : Turn (ring (upper S given)) (positions (u ∷ U))
+  pub counts : (a b : A) → net (S .same) a b outer ≡ net (S .same) a b (ring (lower S given)) +ℤ net (S .same) a b (reverse (ring (upper S given)))

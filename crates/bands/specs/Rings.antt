@@ -2,14 +2,15 @@
 use Prim.Native.Nat.{ℕ}
 use mathlib.Core.Bool.{Bool, false, cond, _&&_, _||_}
 use mathlib.Core.List.{List, [], _∷_, map, reverse}
+use lib.Dec.{eqb}
 use lib.Ieee.{Float, nan, lt}
 use lib.Ieee.Scale.{finite}
 use lib.ListN.{getD}
 use Rattle.numbers.specs.Rounded.{_⊕_, _⊖_}
-use Rattle.loops.specs.Rings.{begun}
 use Rattle.loops.specs.Branch.{branchShift}
+use Rattle.loops.specs.Rings.{turned}
 use Rattle.bands.specs.Corners.{Corner, Corners, us, moveU}
-use Rattle.rings.specs.Choices.{leastU, greatestU, firstOf, stripShift, straddles, firstPast, nearest}
+use Rattle.rings.specs.Choices.{leastU, greatestU, firstOf, stripShift, straddles, firstOpenPast, nearest}
 use Rattle.rings.specs.Turns.{unlessZero, beginRingAt, alignAt}
 use Rattle.rings.specs.Starts.{start}
 use Rattle.bands.specs.Given.{Loop, Given}
@@ -66,9 +67,10 @@ module _ (period : Float) {A : Type 0} where
   unfoldable pub gapOf : Face A → Gap
   gapOf face = widestGap (seam face) (seam face ⊕ period) (map (λ (hole : Corners A). spanOf (us hole)) (onStrip face .holes))
 
-  -- a ring begun at its first point at or past the cut, its repeated last point among the others (02, N4 mends this)
+  -- 02, N4: "Recutting now sets the repeat aside and finds the first open point at or past the cut. It turns the open points, adds the period to those moved,
+  -- and closes with the new first point's position and v, at its u plus period. If no open point reaches the cut, or the first one does, the ring stays."
   unfoldable pub recut : Float → Corners A → Corners A
-  recut cut r = begun raised (firstPast cut (us r)) r
+  recut cut r = let k = firstOpenPast cut (us r) in cond (eqb k 0) r (turned raised k r)
 
   unfoldable pub cutAnew : Face A → Face A
   cutAnew face =

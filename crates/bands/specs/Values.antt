@@ -2,10 +2,10 @@
 use Prim.Native.Nat.{ℕ, _+_}
 use mathlib.Core.Path.{_≡_, refl, ap}
 use mathlib.Core.Bool.{Bool, true, false}
-use mathlib.Core.List.{List, [], _∷_}
+use mathlib.Core.List.{List, [], _∷_, map, reverse}
 use lib.Dec.{eqb}
-use lib.IntN.{pos, negsuc}
-use lib.Ieee.{Float, binary64, fin, add, sub, mul, div, neg, lt, le, eq, ne, ofBits, ofInt}
+use lib.IntN.{ℤ, pos, negsuc, _+ℤ_}
+use lib.Ieee.{Float, binary64, fin, add, sub, mul, div, neg, lt, le, eq, ne, ofBits, ofInt, toSigned}
 use Rattle.loops.specs.Steps.{net, netOf, count, stepsRound, stepsAlong}
 use Rattle.loops.specs.Rings.{endsMeet, begun, closed, turned}
 use Rattle.loops.specs.Repeats.{dropMerging, dropRepeats, dropSuccessive, dropTrailing, keptFrom, cutBack}
@@ -13,8 +13,9 @@ use Rattle.numbers.specs.Order.{absOf}
 use Rattle.numbers.specs.Round.{roundAway, floorOf}
 use Rattle.loops.specs.Mean.{meanOf, sumOf}
 use Rattle.loops.specs.Span.{leastOf, greatestOf}
+use Rattle.loops.specs.Wrap.{netWrap, turnsCounted}
 use Rattle.bands.specs.Corners.{Corner, Corners, us, positions}
-use Rattle.rings.specs.Choices.{leastU, greatestU, firstPast, stripShift, straddles, nearest, firstLeast, firstFrom, serve, beginsBackward, standsAtTheCut}
+use Rattle.rings.specs.Choices.{leastU, greatestU, firstPast, firstOpenPast, stripShift, straddles, nearest, firstLeast, firstFrom, serve, beginsBackward, standsAtTheCut}
 use Rattle.rings.specs.Turns.{unlessZero, beginRingAt, turnedOnto, alignAt}
 use Rattle.rings.specs.Starts.{alignedU, slidU, firstFor, laterFor, serves, firstServing, start}
 use Rattle.bands.specs.Given.{Measured, Given, only, givenOf}
@@ -25,7 +26,7 @@ use Rattle.surfaces.specs.Rungs.{division, divisionsFrom, slackOf, near, keptAf
 use Rattle.bands.specs.Strip.{Setting, ladder, heights, strip}
 use Rattle.bands.specs.Band.{firstIsLower, lift, joined, lowerFirst, lowerRing, upperRing, stripOf, outer, holes}
 
--- -4 to 8 as reals
+-- -4 to 9 as reals
 abbrev r-4 : Float
 r-4 = fin true 1 (pos 2)
 
@@ -50,11 +51,17 @@ r3 = fin false 3 (pos 0)
 abbrev r4 : Float
 r4 = fin false 1 (pos 2)
 
+abbrev r4·5 : Float
+r4·5 = fin false 9 (negsuc 0)
+
 abbrev r5 : Float
 r5 = fin false 5 (pos 0)
 
 abbrev r5·5 : Float
 r5·5 = fin false 11 (negsuc 0)
+
+abbrev r5·75 : Float
+r5·75 = fin false 23 (negsuc 1)
 
 abbrev r6 : Float
 r6 = fin false 3 (pos 1)
@@ -64,6 +71,9 @@ r7 = fin false 7 (pos 0)
 
 abbrev r8 : Float
 r8 = fin false 1 (pos 3)
+
+abbrev r9 : Float
+r9 = fin false 9 (pos 0)
 
 abbrev corner : {X : Type 0} → Float → Float → X → Corner X
 corner u v a = record { u = u; v = v; at = a }
@@ -185,6 +195,46 @@ bored hole = record { corners = hole; wrap = pos 0 }
 pierced : List (Corners ℕ) → Given ℕ
 pierced holes = record { first = record { corners = five; falls = false }; later = record { corners = four; falls = false }; holes = holes }
 
+-- A bore from -1 to 1 lies across the seam. Brought onto the strip it is from 3 to 5, so that `reseam` finds the gap from 0 to 3, and cuts at 1.5.
+drilled : Corners ℕ → Corners ℕ → Given ℕ
+drilled first later = record {
+  first = record { corners = first; falls = false };
+  later = record { corners = later; falls = false };
+  holes = slot r-1 r1 31 ∷ [];
+}
+
+-- A ring that begins at that cut, and one of which the repeated last point alone reaches it. That point is not quite a period on.
+atCut : Corners ℕ
+atCut = corner r1·5 r0 10 ∷ corner r2 r0 11 ∷ corner r4 r0 12 ∷ corner r5·75 r0 10 ∷ []
+
+beforeCut : Corners ℕ
+beforeCut = corner r0 r0 10 ∷ corner r1 r0 11 ∷ corner r4·5 r0 10 ∷ []
+
+-- rings of three points
+threeUp : Corners ℕ
+threeUp = corner r0 r1 20 ∷ corner r2 r1 21 ∷ corner r4 r1 20 ∷ []
+
+threeDown : Corners ℕ
+threeDown = corner r0 r0 10 ∷ corner r2 r0 11 ∷ corner r4 r0 10 ∷ []
+
+-- rings that wrap twice, the upper one of several heights
+twiceUp : Corners ℕ
+twiceUp = corner r0 r1 20 ∷ corner r1 r2 21 ∷ corner r5 r3 22 ∷ corner r8 r1 20 ∷ []
+
+twiceDown : Corners ℕ
+twiceDown = corner r0 r0 10 ∷ corner r1 r0 11 ∷ corner r5 r0 12 ∷ corner r8 r0 10 ∷ []
+
+-- the step counts of the pairs that are a step of some ring here: round a loop, and round a lower ring with an upper one read backward
+pairs : List (ℕ × ℕ)
+pairs = (10, 11) ∷ (11, 12) ∷ (12, 10) ∷ (20, 21) ∷ (21, 22) ∷ (22, 20) ∷ (22, 23) ∷ (23, 20) ∷ []
+
+countsRound : List ℕ → List ℤ
+countsRound xs = map (λ (pair : ℕ × ℕ). net eqb (pair .0) (pair .1) xs) pairs
+
+countsOf : Corners ℕ → Corners ℕ → List ℤ
+countsOf lower upper =
+    map (λ (pair : ℕ × ℕ). net eqb (pair .0) (pair .1) (positions lower) +ℤ net eqb (pair .0) (pair .1) (reverse (positions upper))) pairs
+
 -- the later ring, one turn on
 further : Corners ℕ
 further = corner r4 r0 10 ∷ corner r5·5 r0 11 ∷ corner r6 r0 12 ∷ corner r8 r0 10 ∷ []
@@ -263,17 +313,42 @@ record Values : Type 0 where
   -- each hole is there, in file order, the second brought back onto the strip
   two-holes : holes plain (givenOf (lowLoop ∷ bored (slot r1 r2 31) ∷ highLoop ∷ bored (slot r5 r6 41) ∷ []))
       ≡ slot r1 r2 31 ∷ slot r1 r2 41 ∷ []
-  -- A hole from -1 to 1 lies across the seam, and one from 0 to 1 beside it. The gap is from 1 to 3: each ring begins anew at its first point at or past 2, and
-  -- the second hole lies before that.
+  -- 02, N4. A hole from -1 to 1 lies across the seam, and there is one from 0 to 1. The gap is from 1 to 3: each ring is cut anew at its first open point at or
+  -- past 2, what comes round is a period up, and the ring closes with its new first point. The second hole begins before the cut, so it comes a period up.
   cut-anew : reseam r4 (laid r4 (pierced (slot r-1 r1 31 ∷ slot r0 r1 41 ∷ [])))
       ≡ record {
-        first = corner r2 r1 22 ∷ corner r3 r1 23 ∷ corner r4 r1 20 ∷ corner r4 r1 20 ∷ corner r5 r1 21 ∷ [];
-        later = corner r2 r0 12 ∷ corner r4 r0 10 ∷ corner r4 r0 10 ∷ corner r5·5 r0 11 ∷ [];
+        first = corner r2 r1 22 ∷ corner r3 r1 23 ∷ corner r4 r1 20 ∷ corner r5 r1 21 ∷ corner r6 r1 22 ∷ [];
+        later = corner r2 r0 12 ∷ corner r4 r0 10 ∷ corner r5·5 r0 11 ∷ corner r6 r0 12 ∷ [];
         holes = slot r3 r5 31 ∷ slot r4 r5 41 ∷ [];
       }
-  -- Its band: the rings were turned with their repeated last points inside, and so the later ring drops a real corner, 11, as its last (02, N4 mends this).
+  -- Its band has every corner of both rings: turned with their repeated last points inside, the later ring would lose 11.
   cut-anew-outer : positions (outer plain (pierced (slot r-1 r1 31 ∷ slot r0 r1 41 ∷ [])))
-      ≡ 12 ∷ 10 ∷ 12 ∷ 40 ∷ 50 ∷ 22 ∷ 21 ∷ 20 ∷ 23 ∷ 22 ∷ 50 ∷ 40 ∷ []
+      ≡ 12 ∷ 10 ∷ 11 ∷ 12 ∷ 40 ∷ 50 ∷ 22 ∷ 21 ∷ 20 ∷ 23 ∷ 22 ∷ 50 ∷ 40 ∷ []
+  -- "If no open point reaches the cut, or the first one does, the ring stays", its repeated last point as it was given. Here it is the later ring.
+  first-at-cut : reseam r4 (laid r4 (drilled five atCut)) .later ≡ atCut
+  none-at-cut : reseam r4 (laid r4 (drilled five beforeCut)) .later ≡ beforeCut
+  both-wrap : (netWrap (us atCut) r4 ≡ pos 1) × (netWrap (us beforeCut) r4 ≡ pos 1)
+  -- the first ring is turned all the same
+  other-turned : reseam r4 (laid r4 (drilled five beforeCut)) .first
+      ≡ corner r2 r1 22 ∷ corner r3 r1 23 ∷ corner r4 r1 20 ∷ corner r5 r1 21 ∷ corner r6 r1 22 ∷ []
+  -- rings of three points are cut anew too, though `begin_ring_at` would leave them
+  three-cut : reseam r4 (laid r4 (drilled threeUp threeDown))
+      ≡ record {
+        first = corner r2 r1 21 ∷ corner r4 r1 20 ∷ corner r6 r1 21 ∷ [];
+        later = corner r2 r0 11 ∷ corner r4 r0 10 ∷ corner r6 r0 11 ∷ [];
+        holes = slot r3 r5 31 ∷ [];
+      }
+  three-outer : positions (outer plain (drilled threeUp threeDown)) ≡ 11 ∷ 10 ∷ 11 ∷ 40 ∷ 50 ∷ 21 ∷ 20 ∷ 21 ∷ 50 ∷ 40 ∷ []
+  -- Of rings that wrap twice, what comes round is one period up, and the point that closes has the position and v of the new first one, one period up in u. The
+  -- first ring then begins backward, and so it is turned once more, to begin at 20.
+  wraps-twice : netWrap (us twiceUp) r4 ≡ pos 2
+  twice-cut : reseam r4 (laid r4 (drilled twiceUp twiceDown))
+      ≡ record {
+        first = corner r5 r3 22 ∷ corner r4 r1 20 ∷ corner r5 r2 21 ∷ corner r9 r3 22 ∷ [];
+        later = corner r5 r0 12 ∷ corner r4 r0 10 ∷ corner r5 r0 11 ∷ corner r9 r0 12 ∷ [];
+        holes = slot r3 r5 31 ∷ [];
+      }
+  twice-outer : positions (outer plain (drilled twiceUp twiceDown)) ≡ 10 ∷ 11 ∷ 12 ∷ 10 ∷ 40 ∷ 50 ∷ 20 ∷ 22 ∷ 21 ∷ 20 ∷ 50 ∷ 40 ∷ []
   -- a hole from -4 to 1 covers the strip and reaches past it: there is no gap, and the rings stay
   no-gap : reseam r4 (laid r4 (pierced (slot r1 r2 31 ∷ slot r-4 r1 41 ∷ [])))
       ≡ record { first = five; later = four; holes = slot r1 r2 31 ∷ slot r0 r5 41 ∷ [] }
@@ -307,7 +382,7 @@ record Values : Type 0 where
   against-sense-lifted : stripOf (torus false) (rising-at r1 r2) ≡ up-from-falling r2 r5
 
 values : Values
-unfolding stripOf strip heights ladder lowerRing upperRing lowerFirst firstIsLower lift joined holes laid rising shifted leastU greatestU reseam hasStrip acrossSeam onStrip anyStraddles gapOf hasGap cutAnew recut firstPast widestGap gapAlong sorted insert passed usable started start firstServing firstFrom serves serve firstFor laterFor alignedU slidU beginsBackward standsAtTheCut trial beginRingAt alignCuts alignAt turnedOnto nearest firstLeast slideToCut unlessZero turned begun closed leastOf greatestOf meanOf sumOf absOf roundAway plain givenOf only lowLoop highLoop five four further reaches slot bored pierced late unserved thirds torus rising-at up-from-rising up-from-falling onto stripShift straddles floorOf add sub mul div neg lt le eq ne ofBits ofInt inner rungs endedOn keptDivisions keptAfter near slackOf divisionsFrom division outer dropMerging dropSuccessive dropTrailing keptFrom cutBack
+unfolding stripOf strip heights ladder lowerRing upperRing lowerFirst firstIsLower lift joined holes laid rising shifted leastU greatestU reseam hasStrip acrossSeam onStrip anyStraddles gapOf hasGap cutAnew recut firstOpenPast firstPast widestGap gapAlong sorted insert passed usable started start firstServing firstFrom serves serve firstFor laterFor alignedU slidU beginsBackward standsAtTheCut trial beginRingAt alignCuts alignAt turnedOnto nearest firstLeast slideToCut unlessZero turned begun closed leastOf greatestOf meanOf sumOf absOf roundAway plain givenOf only lowLoop highLoop five four drilled atCut beforeCut threeUp threeDown twiceUp twiceDown netWrap turnsCounted toSigned further reaches slot bored pierced late unserved thirds torus rising-at up-from-rising up-from-falling onto stripShift straddles floorOf add sub mul div neg lt le eq ne ofBits ofInt inner rungs endedOn keptDivisions keptAfter near slackOf divisionsFrom division outer dropMerging dropSuccessive dropTrailing keptFrom cutBack
 values = record {
   one-branch = refl;
   not-past = refl;
@@ -317,6 +392,15 @@ values = record {
   two-holes = refl;
   cut-anew = refl;
   cut-anew-outer = refl;
+  first-at-cut = refl;
+  none-at-cut = refl;
+  both-wrap = (refl, refl);
+  other-turned = refl;
+  three-cut = refl;
+  three-outer = refl;
+  wraps-twice = refl;
+  twice-cut = refl;
+  twice-outer = refl;
   no-gap = refl;
   start-3 = refl;
   none-serves = refl;
@@ -329,4 +413,20 @@ values = record {
   with-sense-lifted = refl;
   against-sense = refl;
   against-sense-lifted = refl;
+}
+
+-- Of those pairs, the bands of rings that were cut anew have the step counts of the lower ring with those of the upper ring read backward, as both were given.
+record Counts : Type 0 where
+  cut-anew-counts : countsRound (positions (outer plain (pierced (slot r-1 r1 31 ∷ slot r0 r1 41 ∷ [])))) ≡ countsOf four five
+  four-and-five : countsOf four five ≡ pos 1 ∷ pos 1 ∷ pos 1 ∷ negsuc 0 ∷ negsuc 0 ∷ pos 0 ∷ negsuc 0 ∷ negsuc 0 ∷ []
+  twice-counts : countsRound (positions (outer plain (drilled twiceUp twiceDown))) ≡ countsOf twiceDown twiceUp
+  twice-down-and-up : countsOf twiceDown twiceUp ≡ pos 1 ∷ pos 1 ∷ pos 1 ∷ negsuc 0 ∷ negsuc 0 ∷ negsuc 0 ∷ pos 0 ∷ pos 0 ∷ []
+
+counts : Counts
+unfolding pairs countsRound countsOf net netOf count stepsRound stepsAlong five four twiceUp twiceDown
+counts = record {
+  cut-anew-counts = ap countsRound (values .cut-anew-outer);
+  four-and-five = refl;
+  twice-counts = ap countsRound (values .twice-outer);
+  twice-down-and-up = refl;
 }

@@ -21,8 +21,9 @@ mod verdict;
 // The face record is closed into the front of the lent bytes, or refused; refused, the lent bytes
 // keep their values. The first two clauses say what is returned and what the lent bytes are then, by
 // the definition of the whole call: demand 2, where that definition is what the Rust computes. The next
-// two are the demands 1 and 3 of both, then what 02, N2 adds of whole surfaces. The last goes beyond 01:
-// every real of a result is finite and at most 10^24 in size, as 02, N9 asks of results.
+// two are the demands 1 and 3 of the pair and the bytes, 3 wherever the holes lie (02, N4), then what
+// 02, N2 adds of whole surfaces. The last goes beyond 01: every real of a result is finite and at most
+// 10^24 in size, as 02, N9 asks of results.
 pub fn close_face(record: &[u8], result: &mut [u8]) -> Answer
     ensures { λ r. ⌜ r ≡ answerOf (judge (length (now (result .entry))) (now («record» .entry))) ⌝ }
     ensures { λ _. ⌜ now (result .exit) ≡ lentAfter (judge (length (now (result .entry))) (now («record» .entry))) (now (result .entry)) ⌝ }

@@ -2,69 +2,68 @@
 use Prim.Native.Nat.{ℕ}
 use mathlib.Core.Path.{_≡_, refl, sym, ap, _∙_}
 use mathlib.Core.Bool.{Bool, true, false, cond}
-use mathlib.Core.List.{List, map, append-nil}
+use mathlib.Core.List.{List, map}
 use lib.Ieee.{Float}
 use Rattle.numbers.specs.Rounded.{_⊕_}
-use Rattle.loops.specs.Rings.{begun, unchanged}
-use Rattle.loops.proofs.Projections.{map-begun}
-use Rattle.rings.specs.Choices.{firstOf, firstPast, nearest}
-use Rattle.rings.specs.Turns.{beginRingAt, alignAt}
+use Rattle.loops.specs.Rings.{unchanged}
+use Rattle.rings.specs.Choices.{firstOf, firstOpenPast, nearest}
+use Rattle.rings.specs.Turns.{beginRingAt, recutAt, alignAt}
 use Rattle.rings.specs.Starts.{firstFor, start}
-use Rattle.rings.proofs.Carried.{unless-unchanged, map-unlessZero, map-beginRingAt, map-alignAt}
+use Rattle.rings.proofs.Carried.{unless-unchanged, map-unlessZero, map-beginRingAt, map-recutAt, map-alignAt}
+use Rattle.rings.proofs.Turning.{recut-none}
 use Rattle.seam.specs.declared.reseam.Reseamed.{Reseamed}
 use Rattle.seam.specs.declared.reseam.Reseamed.the-variants.{Kept, Recut}
 use Rattle.seam.specs.Reseam.{Us, reseamU, startsU, startsAt, cutU, onStripU, seamU, gapOfU}
 use Rattle.seam.specs.declared.reseam.Cut.the-variants.{Keep, At}
 use Rattle.bands.specs.Corners.{Corner, Corners, us, moveU}
 use Rattle.bands.specs.Rings.{Face, raised, onStrip, acrossSeam, gapOf, recut, cutAnew, hasStrip, hasGap, reseam, alignCuts, slideToCut, trial, started}
+use Rattle.bands.proofs.Recut.{recut-is}
 use Rattle.joining.specs.Joined.{firstCut, laterCut, carriedFirst, carriedLater, startOf, nearestOf, startedU}
 use Rattle.joining.proofs.Held.{Held, strip-is, across-is, usable-is, cut-is, held-reseam, held-started}
 
 -- g is what a corner carries: no move along u changes it
 module _ (period : Float) (counts : List ℕ) {A B : Type 0} (g : Corner A → B) (stays : (f : Float → Float) (c : Corner A) → g (moveU f c) ≡ g c) where
-  unturned : (xs : List B) → begun unchanged 0 xs ≡ xs
-  unfolding begun
-  unturned xs = append-nil xs
+  unturned : (xs : List B) → recutAt unchanged 0 xs ≡ xs
+  unturned xs = sym (recut-none unchanged 0 xs refl)
 
-  part-recut : (cut : Float) (r : Corners A) → map g (recut period cut r) ≡ begun unchanged (firstPast cut (us r)) (map g r)
-  unfolding recut
-  part-recut cut r = map-begun g (raised period) unchanged (stays (λ u. u ⊕ period)) (firstPast cut (us r)) r
+  part-recut : (cut : Float) (r : Corners A) → map g (recut period cut r) ≡ recutAt unchanged (firstOpenPast cut (us r)) (map g r)
+  part-recut cut r = ap (map g) (recut-is cut r period) ∙ map-recutAt g (raised period) unchanged (stays (λ u. u ⊕ period)) (firstOpenPast cut (us r)) r
 
   module _ (s : Us) (face : Face A) (held : Held counts s face) where
     abbrev gap : Float
     gap = gapOfU period counts (seamU s) (onStripU period counts s .holes) .cut
 
     anew : Reseamed
-    anew = Recut (firstPast gap (s .first)) (firstPast gap (s .later))
+    anew = Recut (firstOpenPast gap (s .first)) (firstOpenPast gap (s .later))
 
     -- of either ring: `point` is where it was cut
     part-reseam : (ring : Face A → Corners A) (point : Reseamed → ℕ) → point Kept ≡ 0 → ring (onStrip period face) ≡ ring face
-        → map g (ring (cutAnew period face)) ≡ begun unchanged (point anew) (map g (ring face))
-        → map g (ring (reseam period face)) ≡ begun unchanged (point (startsU period counts s)) (map g (ring face))
+        → map g (ring (cutAnew period face)) ≡ recutAt unchanged (point anew) (map g (ring face))
+        → map g (ring (reseam period face)) ≡ recutAt unchanged (point (startsU period counts s)) (map g (ring face))
     unfolding reseam startsU startsAt cutU onStripU anew
     part-reseam ring point kept on cut =
         rw (strip-is period counts s face held) (rw (across-is period counts s face held) (rw (usable-is period counts s face held) (outcome (hasStrip period face) (acrossSeam period face) (hasGap period face))))
       where
-        still : map g (ring face) ≡ begun unchanged (point Kept) (map g (ring face))
-        still = sym (ap (λ (k : ℕ). begun unchanged k (map g (ring face))) kept ∙ unturned (map g (ring face)))
+        still : map g (ring face) ≡ recutAt unchanged (point Kept) (map g (ring face))
+        still = sym (ap (λ (k : ℕ). recutAt unchanged k (map g (ring face))) kept ∙ unturned (map g (ring face)))
 
-        outcome : (t a b : Bool) → map g (ring (cond t (cond a (cond b (cutAnew period face) (onStrip period face)) (onStrip period face)) face)) ≡ begun unchanged (point (cond t (startsAt (cond a (cond b (At gap) Keep) Keep) (onStripU period counts s)) Kept)) (map g (ring face))
+        outcome : (t a b : Bool) → map g (ring (cond t (cond a (cond b (cutAnew period face) (onStrip period face)) (onStrip period face)) face)) ≡ recutAt unchanged (point (cond t (startsAt (cond a (cond b (At gap) Keep) Keep) (onStripU period counts s)) Kept)) (map g (ring face))
         outcome false a b = still
         outcome true false b = ap (map g) on ∙ still
         outcome true true false = ap (map g) on ∙ still
         outcome true true true = cut
 
-    part-first : map g (reseam period face .first) ≡ begun unchanged (firstCut (startsU period counts s)) (map g (face .first))
+    part-first : map g (reseam period face .first) ≡ recutAt unchanged (firstCut (startsU period counts s)) (map g (face .first))
     unfolding onStrip cutAnew anew
     part-first =
         part-reseam (λ (f : Face A). f .first) firstCut refl refl
-        (part-recut (gapOf period face .cut) (face .first) ∙ (λ i. begun unchanged (firstPast (sym (cut-is period counts s face held) i) (sym (held .first) i)) (map g (face .first))))
+        (part-recut (gapOf period face .cut) (face .first) ∙ (λ i. recutAt unchanged (firstOpenPast (sym (cut-is period counts s face held) i) (sym (held .first) i)) (map g (face .first))))
 
-    part-later : map g (reseam period face .later) ≡ begun unchanged (laterCut (startsU period counts s)) (map g (face .later))
+    part-later : map g (reseam period face .later) ≡ recutAt unchanged (laterCut (startsU period counts s)) (map g (face .later))
     unfolding onStrip cutAnew anew
     part-later =
         part-reseam (λ (f : Face A). f .later) laterCut refl refl
-        (part-recut (gapOf period face .cut) (face .later) ∙ (λ i. begun unchanged (firstPast (sym (cut-is period counts s face held) i) (sym (held .later) i)) (map g (face .later))))
+        (part-recut (gapOf period face .cut) (face .later) ∙ (λ i. recutAt unchanged (firstOpenPast (sym (cut-is period counts s face held) i) (sym (held .later) i)) (map g (face .later))))
 
     part-begun : map g (started period face .first) ≡ beginRingAt unchanged (startOf period s) (map g (face .first))
     unfolding started trial startOf

@@ -11,11 +11,10 @@ use Rattle.lists.specs.Pieces.{pieces}
 use Rattle.lists.proofs.Maps.{map-reverse}
 use Rattle.lists.proofs.Pieces.{pieces-mapped}
 use Rattle.loops.specs.Branch.{branchShift}
-use Rattle.loops.proofs.Projections.{map-begun}
-use Rattle.rings.specs.Choices.{leastU, greatestU, firstOf, firstPast, nearest, stripShift, straddles}
+use Rattle.rings.specs.Choices.{leastU, greatestU, firstOf, firstOpenPast, nearest, stripShift, straddles}
 use Rattle.rings.specs.Turns.{beginRingAt}
 use Rattle.rings.specs.Starts.{alignedU, slidU, firstFor, laterFor, start, raise}
-use Rattle.rings.proofs.Carried.{map-cond, map-each, map-unlessZero, map-beginRingAt, map-alignAt}
+use Rattle.rings.proofs.Carried.{map-cond, map-each, map-unlessZero, map-beginRingAt, map-recutAt, map-alignAt}
 use Rattle.seam.specs.declared.gap.Gap.{Gap}
 use Rattle.seam.specs.Gap.{Span, spanOf, widestGap, usable}
 use Rattle.seam.specs.Holes as Holes
@@ -28,6 +27,7 @@ use Rattle.seam.proofs.EachHole.{length-onto}
 use Rattle.bands.specs.Corners.{Corner, Corners, us, moveU}
 use Rattle.bands.specs.Given.{Loop}
 use Rattle.bands.specs.Rings.{Face, rising, shifted, lessU, raised, seam, onto, onStrip, anyStraddles, acrossSeam, gapOf, recut, cutAnew, hasStrip, hasGap, reseam, alignCuts, slideToCut, trial, started}
+use Rattle.bands.proofs.Recut.{recut-is}
 use Rattle.joining.specs.Joined.{risen, shiftedU, startOf, startedU, joinedU}
 
 module _ {A : Type 0} where
@@ -52,8 +52,8 @@ module _ {A : Type 0} where
     us-onto lo r = let step = stripShift period lo (us r) in map-unlessZero u-of (lessU period step) (λ u. u ⊖ step) (λ c. refl) step r
 
     us-recut : (cut : Float) (r : Corners A) → us (recut period cut r) ≡ recutU period cut (us r)
-    unfolding recut recutU
-    us-recut cut r = map-begun u-of (raised period) (λ u. u ⊕ period) (λ c. refl) (firstPast cut (us r)) r
+    unfolding recutU
+    us-recut cut r = ap us (recut-is cut r period) ∙ map-recutAt u-of (raised period) (λ u. u ⊕ period) (λ c. refl) (firstOpenPast cut (us r)) r
 
     us-begin : (k : ℕ) (r : Corners A) → us (beginRingAt (raised period) k r) ≡ firstFor period k (us r)
     unfolding firstFor

@@ -7,11 +7,10 @@ use lib.Ieee.{Float, binary64, fits}
 use Rattle.numbers.specs.Rounded.{_⊖_}
 use Rattle.loops.specs.Branch.{branchShift, LandsNear}
 use Rattle.loops.proofs.Landing.{moved-answer}
-use Rattle.loops.specs.Rings.{begun}
 use Rattle.rings.specs.Choices.{firstOf, nearest}
 use Rattle.rings.specs.Moves.{movedBy}
 use Rattle.rings.specs.declared.moves.Move.the-variants.{Stay, Down}
-use Rattle.rings.specs.Turns.{beginRingAt, alignAt}
+use Rattle.rings.specs.Turns.{beginRingAt, recutAt, alignAt}
 use Rattle.rings.specs.Starts.{alignedU, slidU, firstFor, laterFor, start}
 use Rattle.starts.specs.declared.Search.{Search}
 use Rattle.starts.specs.declared.Search.the-variants.{Found, NoRoom}
@@ -31,11 +30,11 @@ pub stays : (falls : Bool) (xs : List Float) → falls ≡ false → xs ≡ rise
 unfolding risen
 stays falls xs t = ap (λ (b : Bool). cond b (reverse xs) xs) (sym t)
 
-pub first-carried : (cut start : ℕ) (xs ys zs : List Float) → ys ≡ begun (movedBy Stay) cut xs → zs ≡ beginRingAt (movedBy Stay) start ys → zs ≡ carriedFirst cut start xs
+pub first-carried : (cut start : ℕ) (xs ys zs : List Float) → ys ≡ recutAt (movedBy Stay) cut xs → zs ≡ beginRingAt (movedBy Stay) start ys → zs ≡ carriedFirst cut start xs
 unfolding carriedFirst
 first-carried cut start xs ys zs e d = d ∙ ap (beginRingAt (movedBy Stay) start) e
 
-pub later-carried : (cut near : ℕ) (xs ys zs : List Float) → ys ≡ begun (movedBy Stay) cut xs → zs ≡ alignAt (movedBy Stay) (movedBy Stay) near ys → zs ≡ carriedLater cut near xs
+pub later-carried : (cut near : ℕ) (xs ys zs : List Float) → ys ≡ recutAt (movedBy Stay) cut xs → zs ≡ alignAt (movedBy Stay) (movedBy Stay) near ys → zs ≡ carriedLater cut near xs
 unfolding carriedLater
 later-carried cut near xs ys zs e d = d ∙ ap (alignAt (movedBy Stay) (movedBy Stay) near) e
 

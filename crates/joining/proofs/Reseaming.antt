@@ -7,8 +7,8 @@ use lib.Dec.{ltb}
 use lib.Ieee.{Float}
 use lib.ListN.{length}
 use Rattle.numbers.specs.Rounded.{_⊕_}
-use Rattle.rings.specs.Choices.{firstPast}
-use Rattle.rings.proofs.Lengths.{length-begun}
+use Rattle.rings.specs.Choices.{firstOpenPast}
+use Rattle.rings.proofs.Lengths.{length-recutAt}
 use Rattle.seam.specs.declared.reseam.Cut.{Cut}
 use Rattle.seam.specs.declared.reseam.Cut.the-variants.{Keep, At}
 use Rattle.seam.specs.declared.reseam.Reseamed.{Reseamed}
@@ -24,7 +24,7 @@ module _ (period : Float) (counts : List ℕ) where
 
   length-recut : (cut : Float) (xs : List Float) → length (recutU period cut xs) ≡ length xs
   unfolding recutU
-  length-recut cut xs = length-begun (λ u. u ⊕ period) (firstPast cut xs) xs
+  length-recut cut xs = length-recutAt (λ u. u ⊕ period) (firstOpenPast cut xs) xs
 
   cut-lengths : (cut : Cut) (s : Us) → (length (cutAtU period counts cut s .first) ≡ length (s .first)) × (length (cutAtU period counts cut s .later) ≡ length (s .later))
   unfolding cutAtU

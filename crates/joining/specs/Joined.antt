@@ -9,9 +9,9 @@ use lib.Ieee.{Float}
 use lib.ListN.{length}
 use Rattle.numbers.specs.Rounded.{_⊖_}
 use Rattle.loops.specs.Branch.{branchShift}
-use Rattle.loops.specs.Rings.{begun, unchanged}
+use Rattle.loops.specs.Rings.{unchanged}
 use Rattle.rings.specs.Choices.{firstOf, nearest}
-use Rattle.rings.specs.Turns.{beginRingAt, alignAt}
+use Rattle.rings.specs.Turns.{beginRingAt, recutAt, alignAt}
 use Rattle.rings.specs.Starts.{firstFor, laterFor, start}
 use Rattle.seam.specs.declared.reseam.Reseamed.{Reseamed}
 use Rattle.seam.specs.declared.reseam.Reseamed.the-variants.{Kept, Recut, NoRoom}
@@ -37,10 +37,10 @@ laterCut NoRoom = 0
 -- what a corner carries, turned where its ring was cut anew and where it then begins
 module _ {A : Type 0} where
   unfoldable pub carriedFirst : ℕ → ℕ → List A → List A
-  carriedFirst cut start xs = beginRingAt unchanged start (begun unchanged cut xs)
+  carriedFirst cut start xs = beginRingAt unchanged start (recutAt unchanged cut xs)
 
   unfoldable pub carriedLater : ℕ → ℕ → List A → List A
-  carriedLater cut nearest xs = alignAt unchanged unchanged nearest (begun unchanged cut xs)
+  carriedLater cut nearest xs = alignAt unchanged unchanged nearest (recutAt unchanged cut xs)
 
 module _ (period : Float) where
   -- "Shift by whole periods toward the least u": also where the shift is a zero

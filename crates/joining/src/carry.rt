@@ -3,8 +3,8 @@ ghost use mathlib.Core.Path.{_≡_};
 ghost use Rattle.joining.specs.Joined.{risen, carriedFirst, carriedLater};
 use rings::moves::Move;
 use rings::moves::align_at;
-use rings::moves::begin;
 use rings::moves::begin_ring_at;
+use rings::moves::recut_at;
 use rings::moves::reverse;
 
 // A ring of negative travel is read backward.
@@ -19,13 +19,13 @@ pub fn rise(s: &mut [f64], falls: bool)
 pub fn carry_first(s: &mut [f64], cut: usize, start: usize)
     ensures { λ _. ⌜ now (s .exit) ≡ carriedFirst cut start (now (s .entry)) ⌝ }
 {
-    begin(s, cut, Move::Stay);
+    recut_at(s, cut, Move::Stay);
     begin_ring_at(s, start, Move::Stay);
 }
 
 pub fn carry_later(s: &mut [f64], cut: usize, nearest: usize)
     ensures { λ _. ⌜ now (s .exit) ≡ carriedLater cut nearest (now (s .entry)) ⌝ }
 {
-    begin(s, cut, Move::Stay);
+    recut_at(s, cut, Move::Stay);
     align_at(s, nearest, Move::Stay, Move::Stay);
 }

@@ -1,17 +1,19 @@
 -- What holds of each element of a list still holds of each after the steps that loops go through.
-use Prim.Native.Nat.{ℕ, zero, suc, _-_, _<_, suc-le-suc}
+use Prim.Native.Nat.{ℕ, zero, suc, _-_, _≤_, _<_, suc-le-suc}
 use mathlib.Core.Path.{_≡_, refl, subst, sym}
 use mathlib.Core.Bool.{Bool, true, false, cond, _&&_, _||_}
 use mathlib.Core.List.{List, [], _∷_, _++_, map, reverse, reverseAux, dropLast}
 use native.Mathlib.Nat.{zero-lt-suc, not-suc-le-zero, le-of-suc-le-suc}
+use native.Mathlib.Omega.{arith}
+use borrow.Author.Tests.{eqb-false}
 use lib.Dec.{ltb, eqb}
 use lib.Ieee.{Float, ne}
-use lib.ListN.{length, getD, take, drop}
+use lib.ListN.{length, getD, take, drop, length-drop}
 use Rattle.numbers.specs.Constants.{plusZero}
-use Rattle.lists.proofs.Elements.{dropLast-take}
+use Rattle.lists.proofs.Elements.{length-dropLast, dropLast-take}
 use Rattle.loops.specs.Repeats.{keep, keptFrom, dropSuccessive, cutBack, dropTrailing, dropMerging, dropRepeats}
 use Rattle.loops.specs.Rings.{begun, closed, turned}
-use Rattle.rings.specs.Turns.{unlessZero, beginRingAt, turnedOnto, alignAt}
+use Rattle.rings.specs.Turns.{unlessZero, beginRingAt, recutAt, turnedOnto, alignAt}
 use Rattle.bands.specs.Given.{only}
 use Rattle.records.specs.Result.{All, none, and}
 
@@ -103,6 +105,29 @@ module _ {A : Type 0} {P : A → Type 0} where
     unfolding closed
     all-closed none = none
     all-closed (and {a} h hs) = all-append (and (stays a h) (all-so stays hs)) (and (comes a h) none)
+
+    closed-past : (xs ys : List A) → 0 < length xs → All P xs → All Q ys → All Q (closed again (xs ++ ys))
+    unfolding closed
+    closed-past [] ys l h hs = absurd (not-suc-le-zero l)
+    closed-past (x ∷ xs) ys l h hs = all-append (all-append (all-so stays h) hs) (and (comes x (all-first h)) none)
+
+    -- a ring cut anew at one of its open points closes with a point that stays
+    pub all-recutAt : (k : ℕ) (xs : List A) → k ≤ length xs - 2 → All P xs → All Q (recutAt again k xs)
+    unfolding recutAt turned begun
+    all-recutAt k xs l h = either (eqb k 0) (ltb (length xs) 2) refl
+      where
+        points : List A
+        points = dropLast xs
+
+        either : (s t : Bool) → eqb k 0 ≡ s → All Q (cond (s || t) xs (closed again (drop k points ++ map again (take k points))))
+        either true t e = all-so stays h
+        either false true e = all-so stays h
+        either false false e =
+            let n = eqb-false k 0 e in
+            let d = length-drop k points in
+            let m = length-dropLast xs in
+            let hs = all-dropLast xs h in
+            closed-past (drop k points) _ (omega arith) (all-drop k hs) (all-map again comes (all-take k hs))
 
   module _ (again : A → A) (to : (a : A) → P a → P (again a)) where
     same-begun : (k : ℕ) {xs : List A} → All P xs → All P (begun again k xs)

@@ -1,20 +1,22 @@
 -- What holds of each corner of a band's loops still holds of each where the strip takes them, if it holds of a corner that was moved in u.
 use Prim.Native.Nat.{ℕ}
+use mathlib.Core.Path.{sym, subst}
 use mathlib.Core.Bool.{Bool, true, false, cond}
 use lib.ListN.{getD}
 use lib.Ieee.{Float, nan, binary64}
 use lib.Ieee.Fits.{add-fits, sub-fits}
 use Rattle.numbers.specs.Rounded.{_⊕_, _⊖_}
 use Rattle.loops.specs.Branch.{branchShift}
-use Rattle.rings.specs.Choices.{firstOf, firstPast, stripShift, nearest}
+use Rattle.rings.specs.Choices.{firstOf, firstOpenPast, stripShift, nearest}
 use Rattle.rings.specs.Turns.{beginRingAt}
 use Rattle.bands.specs.Band.{pick, joined, lowerFirst, lowerRing, holes}
 use Rattle.bands.specs.Corners.{Corner, Corners, us, moveU}
 use Rattle.bands.specs.Given.{Loop, Given}
 use Rattle.bands.specs.Rings.{Face, rising, raised, lessU, shifted, laid, seam, onto, onStrip, acrossSeam, gapOf, recut, cutAnew, hasStrip, hasGap, reseam, alignCuts, slideToCut, trial, started}
 use Rattle.bands.specs.Strip.{Setting}
+use Rattle.bands.proofs.Recut.{at-open-point, recut-is}
 use Rattle.records.specs.Result.{All, Fits}
-use Rattle.judgement.proofs.Each.{all-reverse, all-if, all-map, all-unlessZero, all-begun, all-beginRingAt, all-alignAt}
+use Rattle.judgement.proofs.Each.{all-reverse, all-if, all-map, all-unlessZero, all-recutAt, all-beginRingAt, all-alignAt}
 
 module _ {A : Type 0} (P : Corner A → Type 0) where
   pub record EachGiven (g : Given A) : Type 0 where
@@ -60,8 +62,9 @@ module _ {A : Type 0} {P : Corner A → Type 0} (moved : (f : Float → Float) �
     onto-each lo hole h = all-unlessZero _ _ (less (stripShift period lo (us hole))) h
 
     recut-each : (cut : Float) (r : Corners A) → All P r → All P (recut period cut r)
-    unfolding recut
-    recut-each cut r h = all-begun (raised period) (λ c p. p) (up period) (firstPast cut (us r)) h
+    recut-each cut r h =
+        subst (All P) (sym (recut-is cut r period))
+        (all-recutAt (raised period) (λ c p. p) (up period) (firstOpenPast cut (us r)) r (at-open-point cut r) h)
 
     on-strip-each : (f : Face A) → EachFace P f → EachFace P (onStrip period f)
     unfolding onStrip

@@ -77,7 +77,7 @@ pub record BandDemand (s : List ℕ) (code : ℕ) (new : List ℕ) : Type 0 wher
   -- "byte 1 path (0 closed, 1 wrapped, 2 whole surface)": of a face that is closed it is 1 exactly where loops wrap, and those are two
   pub path-is : code ≡ 0 → (byteAt new 1 ≡ 1 ↔ 0 < wrapping s)
   pub two-wrap : code ≡ 0 → 0 < wrapping s → wrapping s ≡ 2
-  -- "Demand 3 is a single claim about a returned band and its strip": of every face that is closed and of which two loops wrap
+  -- "Demand 3 is a single claim about a returned band and its strip": of every face that is closed and of which two loops wrap, "wherever the holes lie" (02, N4)
   pub band : code ≡ 0 → wrapping s ≡ 2 → Demand3 (settingIn s) (givenIn s) (outerPositions new) (holePositions new)
 
 -- ---- whole surfaces

@@ -56,14 +56,14 @@ use Rattle.judgement.specs.Demands.{outerPositions}
 
 -- ---- parts of records
 
-abbrev -1·0 : Float
+abbrev pub -1·0 : Float
 -1·0 = ofBits binary64 0xbff0_0000_0000_0000
 
 abbrev 0·5085 : Float
 0·5085 = ofBits binary64 0x3fe0_45a1_cac0_8312
 
 -- the 13 reals of a cylinder or sphere: origin 0, axis z, reference direction x, radius 1, sag 1, and the angle
-abbrev head : Float → List Float
+abbrev pub head : Float → List Float
 head angle = 0·0 ∷ 0·0 ∷ 0·0 ∷ 0·0 ∷ 0·0 ∷ one ∷ one ∷ 0·0 ∷ 0·0 ∷ one ∷ 0·0 ∷ one ∷ angle ∷ []
 
 -- a ring at a height: three points of a turn of u, and the first again; with u rising and with u falling
@@ -106,7 +106,7 @@ holeUv = whole 7 ∷ 0·5085 ∷ whole 7 ∷ 0·0 ∷ whole 8 ∷ 0·0 ∷ []
 abbrev holeBack : List Float
 holeBack = (whole 7 ⊖ TAU) ∷ 0·5085 ∷ (whole 7 ⊖ TAU) ∷ 0·0 ∷ (whole 8 ⊖ TAU) ∷ 0·0 ∷ []
 
-abbrev holeXyz : List Float
+abbrev pub holeXyz : List Float
 holeXyz = one ∷ one ∷ 0·0 ∷ one ∷ one ∷ one ∷ 0·0 ∷ 0·0 ∷ one ∷ []
 
 -- the same band with that hole, and with its rings the other way and in the other order

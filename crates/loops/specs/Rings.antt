@@ -1,5 +1,6 @@
--- Rings, lists whose last point repeats the first, begun at another point. 01, "Bands": `align_cuts` "drops a later ring's last point, which repeats
--- its first, begins at the point nearest the cut by periods (first of equals), and closes at first u plus period".
+-- Rings, lists whose last point repeats the first, begun at another point, as `begin_ring_at`, `reseam` (02, N4) and, on another branch of u, `align_cuts` begin
+-- them. 01, "Bands": `align_cuts` "drops a later ring's last point, which repeats its first, begins at the point nearest the cut by periods (first of equals), and
+-- closes at first u plus period".
 use Prim.Native.Nat.{ℕ}
 use mathlib.Core.Bool.{Bool, true}
 use mathlib.Core.List.{List, [], _∷_, _++_, map, dropLast}

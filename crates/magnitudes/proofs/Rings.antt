@@ -20,16 +20,17 @@ use Rattle.lists.proofs.Elements.{getD-map, length-dropLast, dropLast-take}
 use Rattle.loops.specs.Branch.{branchShift}
 use Rattle.loops.specs.Rings.{begun, closed, turned}
 use Rattle.loops.specs.Span.{leastOf, greatestOf}
-use Rattle.rings.specs.Choices.{leastU, firstOf, firstPast, firstLeast, stripShift, nearest, offset}
-use Rattle.rings.specs.Turns.{unlessZero, beginRingAt, turnedOnto, alignAt}
-use Rattle.rings.proofs.Lengths.{length-begun, length-beginRingAt, length-alignAt}
+use Rattle.rings.specs.Choices.{leastU, firstOf, firstOpenPast, firstLeast, stripShift, nearest, offset}
+use Rattle.rings.specs.Turns.{unlessZero, beginRingAt, recutAt, turnedOnto, alignAt}
+use Rattle.rings.proofs.Lengths.{length-beginRingAt, length-recutAt, length-alignAt}
 use Rattle.seam.specs.Gap.{Span, spanOf, insert, sorted, passed, gapAlong, widestGap}
 use Rattle.seam.specs.declared.gap.Gap.{Gap}
 use Rattle.bands.specs.Corners.{Corner, Corners, us, moveU}
 use Rattle.bands.specs.Given.{Loop, Given}
 use Rattle.bands.specs.Rings.{Face, rising, lessU, raised, shifted, laid, seam, onto, onStrip, gapOf, recut, cutAnew, hasStrip, acrossSeam, hasGap, reseam, alignCuts, slideToCut, trial, started}
+use Rattle.bands.proofs.Recut.{at-open-point, recut-is}
 use Rattle.records.specs.Result.{All, none, and}
-use Rattle.judgement.proofs.Each.{all-in, all-append, all-dropLast, all-reverse, all-if, all-map, all-so, all-begun, all-closed}
+use Rattle.judgement.proofs.Each.{all-in, all-append, all-dropLast, all-reverse, all-if, all-map, all-so, all-begun, all-closed, all-recutAt}
 use Rattle.magnitudes.proofs.Loops.{Known, known-more, pick-known, min-known, least-known, greatest-known, branch-within, landed-apart, strip-shift-within}
 
 -- ---- loops with corners, whose u are at most B
@@ -261,11 +262,16 @@ module _ {A : Type 0} where
       (all-map (λ (hole : Corners A). spanOf (us hole)) (λ hole k. record { low = least-reach 331 hole k .within; high = greatest-reach 331 hole k .within }) (on-strip-reach f h .holes)) .cut
 
   recut-reach : (cut : Float) (r : Corners A) → Reach 196 r → Reach 203 (recut TAU cut r)
-  unfolding recut
-  recut-reach cut r h = record {
-    some = (let e = length-begun (raised TAU) (firstPast cut (us r)) r in let s = h .some in omega arith);
-    each = begun-in 196 (lit< tt) (firstPast cut (us r)) (h .each);
-  }
+  recut-reach cut r h = subst (Reach 203) (sym (recut-is cut r TAU)) reached
+    where
+      k : ℕ
+      k = firstOpenPast cut (us r)
+
+      reached : Reach 203 (recutAt (raised TAU) k r)
+      reached = record {
+        some = (let e = length-recutAt (raised TAU) k r in let s = h .some in omega arith);
+        each = all-recutAt (raised TAU) (stays-in 196 7 (lit< tt) TAU turn-within) (up-in 196 7 (lit< tt) TAU turn-within) k r (at-open-point cut r) (h .each);
+      }
 
   cut-anew-reach : (f : Face A) → Reaches 196 64 f → Reaches 203 1000 (cutAnew TAU f)
   unfolding cutAnew

@@ -8,12 +8,12 @@ use native.Mathlib.Omega.{arith}
 use borrow.Author.Tests.{lt-ltb, le-ltb}
 use lib.Dec.{ltb}
 use lib.Ieee.{Float, nan, lt, le}
-use lib.ListN.{length, getD, drop, length-map, length-drop}
+use lib.ListN.{length, getD, take, drop, length-map, length-drop}
 use lib.Seq.{drop-cons}
 use Rattle.numbers.specs.Rounded.{_⊕_, _⊖_}
 use Rattle.loops.specs.Span.{leastOf, greatestOf}
-use Rattle.lists.proofs.Elements.{getD-map, length-dropLast}
-use Rattle.rings.specs.Choices.{slack, firstFrom, firstLeast, firstPast, beginsBackward, straddles, offset, nearest, stepStands, standsAtTheCut, serve, firstOf}
+use Rattle.lists.proofs.Elements.{getD-map, length-dropLast, dropLast-take}
+use Rattle.rings.specs.Choices.{slack, firstFrom, firstLeast, firstPast, firstOpenPast, beginsBackward, straddles, offset, nearest, stepStands, standsAtTheCut, serve, firstOf}
 
 -- ---- branches
 
@@ -74,6 +74,18 @@ module _ (cut : Float) (us : List Float) where
   past-none i s h =
       let k : length us ≤ length us = omega arith in
       sym (rw (seeking-end (atOrPast cut us) (length us) i s h, le-ltb (length us) (length us) k))
+
+  -- its open points alone
+  pub open-none : length us ≡ 0 → 0 ≡ firstOpenPast cut us
+  unfolding firstOpenPast firstPast firstFrom
+  open-none h = let none : length (dropLast us) ≡ 0 = let d = length-dropLast us in omega arith in sym (rw none)
+
+  -- a slice's part from 0 on, as it is read
+  pub open-past : (k : ℕ) → k ≡ firstPast cut (take (length us - 1 - 0) us) → k ≡ firstOpenPast cut us
+  unfolding firstOpenPast
+  open-past k e =
+      let n : length us - 1 - 0 ≡ length us - 1 = omega arith in
+      e ∙ ap (firstPast cut) (ap (λ (m : ℕ). take m us) n ∙ sym (dropLast-take us))
 
 -- ---- the point nearest the cut
 

@@ -4,14 +4,15 @@ use mathlib.Core.Path.{_≡_, refl}
 use mathlib.Core.Bool.{Bool, true, false, cond, _||_}
 use mathlib.Core.List.{List, [], _∷_, map, dropLast}
 use native.Mathlib.Omega.{arith}
-use borrow.Author.Tests.{ltb-false}
-use lib.Dec.{ltb, eqb}
-use lib.Ieee.{Float, ne}
-use lib.ListN.{length, length-map, length-append, length-take, length-drop}
+use borrow.Author.Tests.{ltb-true, ltb-false}
+use lib.Dec.{ltb, eqb, lit≤}
+use lib.Ieee.{Float, nan, le, ne}
+use lib.ListN.{length, getD, length-map, length-append, length-take, length-drop}
 use Rattle.numbers.specs.Constants.{plusZero}
 use Rattle.lists.proofs.Elements.{length-dropLast}
 use Rattle.loops.specs.Rings.{begun, closed, turned}
-use Rattle.rings.specs.Turns.{unlessZero, beginRingAt, turnedOnto, alignAt}
+use Rattle.rings.specs.Choices.{firstFrom, firstPast, firstOpenPast}
+use Rattle.rings.specs.Turns.{unlessZero, beginRingAt, recutAt, turnedOnto, alignAt}
 
 module _ {A : Type 0} where
   pub length-if : (n : ℕ) (t : Bool) (xs ys : List A) → length xs ≡ n → length ys ≡ n → length (cond t xs ys) ≡ n
@@ -41,14 +42,22 @@ module _ {A : Type 0} where
         let c = length-closed (begun again k (dropLast xs)) (omega arith) in
         omega arith
 
-    pub length-beginRingAt : (k : ℕ) (xs : List A) → length (beginRingAt again k xs) ≡ length xs
-    unfolding beginRingAt
-    length-beginRingAt k xs = long (eqb k 0) (ltb (length xs) 4) refl
+    -- a ring of fewer than `few` points stays
+    length-unless : (few k : ℕ) (xs : List A) → 2 ≤ few → length (cond (eqb k 0 || ltb (length xs) few) xs (turned again k xs)) ≡ length xs
+    length-unless few k xs m = long (eqb k 0) (ltb (length xs) few) refl
       where
-        long : (s t : Bool) → ltb (length xs) 4 ≡ t → length (cond (s || t) xs (turned again k xs)) ≡ length xs
+        long : (s t : Bool) → ltb (length xs) few ≡ t → length (cond (s || t) xs (turned again k xs)) ≡ length xs
         long true t e = refl
         long false true e = refl
-        long false false e = length-turned k xs (let h = ltb-false (length xs) 4 e in omega arith)
+        long false false e = length-turned k xs (let h = ltb-false (length xs) few e in omega arith)
+
+    pub length-beginRingAt : (k : ℕ) (xs : List A) → length (beginRingAt again k xs) ≡ length xs
+    unfolding beginRingAt
+    length-beginRingAt k xs = length-unless 4 k xs (lit≤ tt)
+
+    pub length-recutAt : (k : ℕ) (xs : List A) → length (recutAt again k xs) ≡ length xs
+    unfolding recutAt
+    length-recutAt k xs = length-unless 2 k xs (lit≤ tt)
 
     pub length-alignAt : (put : A → A) (k : ℕ) (xs : List A) → length (alignAt again put k xs) ≡ length xs
     unfolding alignAt turnedOnto
@@ -67,3 +76,19 @@ module _ {A : Type 0} where
   pub length-unlessZero : (step : Float) (f : A → A) (xs : List A) → length (unlessZero step f xs) ≡ length xs
   unfolding unlessZero
   length-unlessZero step f xs = length-if (length xs) (ne step plusZero) (map f xs) xs (length-map xs f) refl
+
+-- the first point at or past the cut is one of the points, or the first of all
+past-in : (cut : Float) (us : List Float) → firstPast cut us ≤ length us - 1
+unfolding firstPast
+past-in cut us = one-of (ltb k (length us)) refl
+  where
+    k : ℕ
+    k = firstFrom (λ i. le cut (getD us i nan)) 0 (length us)
+
+    one-of : (t : Bool) → ltb k (length us) ≡ t → cond t k 0 ≤ length us - 1
+    one-of true e = let h = ltb-true k (length us) e in omega arith
+    one-of false e = omega arith
+
+pub past-open : (cut : Float) (us : List Float) → firstOpenPast cut us ≤ length us - 2
+unfolding firstOpenPast
+past-open cut us = let h = past-in cut (dropLast us) in let d = length-dropLast us in omega arith

@@ -45,9 +45,13 @@ firstLeast xs (suc n) = let best = firstLeast xs n in cond (lt (getD xs n nan) (
 unfoldable pub beginsBackward : List Float → Bool
 beginsBackward us = ltb 3 (length us) && lt (getD us 1 nan) (getD us 0 nan)
 
--- the first point at or past the cut, and 0 where there is none
+-- of some points the first at or past the cut, and 0 where there is none
 unfoldable pub firstPast : Float → List Float → ℕ
 firstPast cut us = let k = firstFrom (λ i. le cut (getD us i nan)) 0 (length us) in cond (ltb k (length us)) k 0
+
+-- 02, N4: "sets the repeat aside and finds the first open point at or past the cut", and 0 where there is none
+unfoldable pub firstOpenPast : Float → List Float → ℕ
+firstOpenPast cut us = firstPast cut (dropLast us)
 
 module _ (period : Float) where
   -- the whole periods by which a hole lies past the strip's begin, lo

@@ -17,6 +17,11 @@ module _ {A : Type 0} where
   unfoldable pub beginRingAt : (A → A) → ℕ → List A → List A
   beginRingAt again k xs = cond (eqb k 0 || ltb (length xs) 4) xs (turned again k xs)
 
+  -- `reseam` (02, N4): its repeated last point set aside, the open points begun at point k, what comes round done `again`, closed with the new first point. A ring
+  -- that is to begin where it does stays, and so does a list of fewer than two points, which is no ring.
+  unfoldable pub recutAt : (A → A) → ℕ → List A → List A
+  recutAt again k xs = cond (eqb k 0 || ltb (length xs) 2) xs (turned again k xs)
+
   -- its repeated last point dropped, begun at point k, put on a branch, closed anew
   unfoldable pub turnedOnto : (A → A) → (A → A) → ℕ → List A → List A
   turnedOnto again put k xs = closed again (map put (begun again k (dropLast xs)))

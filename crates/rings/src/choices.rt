@@ -2,7 +2,7 @@
 ghost use mathlib.Core.Path.{_≡_};
 ghost use Rattle.loops.specs.Branch.{LeavesTurn};
 ghost use Rattle.loops.specs.Span.{leastOf};
-ghost use Rattle.rings.specs.Choices.{leastU, greatestU, firstOf, beginsBackward, stripShift, straddles, firstPast, offset, nearest, onSeam, stepStands, standsAtTheCut, serve};
+ghost use Rattle.rings.specs.Choices.{leastU, greatestU, firstOf, beginsBackward, stripShift, straddles, firstPast, firstOpenPast, offset, nearest, onSeam, stepStands, standsAtTheCut, serve};
 use loops::span::greatest;
 use loops::span::least;
 use numbers::order::abs;
@@ -60,7 +60,7 @@ pub fn straddles(u: &[f64], lo: f64, period: f64) -> bool
 }
 
 // The first point at or past the cut, and 0 where there is none.
-pub fn first_past(u: &[f64], cut: f64) -> usize
+fn first_past(u: &[f64], cut: f64) -> usize
     ensures { λ r. ⌜ r ≡ firstPast cut (now (u .entry)) ⌝ }
 {
     let mut i = 0;
@@ -71,6 +71,17 @@ pub fn first_past(u: &[f64], cut: f64) -> usize
         i += 1;
     }
     0
+}
+
+// Of the open points: the last one, which repeats the first, is set aside.
+pub fn first_open_past(u: &[f64], cut: f64) -> usize
+    ensures { λ r. ⌜ r ≡ firstOpenPast cut (now (u .entry)) ⌝ }
+{
+    if u.len() == 0 {
+        return 0;
+    }
+    let points = u.len() - 1;
+    first_past(&u[0..points], cut)
 }
 
 // How far u lies from the cut in periods, whole ones left out.

@@ -7,7 +7,7 @@ ghost use lib.Ieee.{nan};
 ghost use Rattle.lists.specs.Parts.{onPart, swapped};
 ghost use Rattle.loops.specs.Rings.{begun};
 ghost use Rattle.rings.specs.Moves.{movedBy};
-ghost use Rattle.rings.specs.Turns.{unlessZero, beginRingAt, turnedOnto, alignAt};
+ghost use Rattle.rings.specs.Turns.{unlessZero, beginRingAt, recutAt, turnedOnto, alignAt};
 ghost use mathlib.Core.List as List;
 
 // A step along u or v, or none: what comes round a ring has its u raised, and all else stays.
@@ -105,7 +105,7 @@ fn begin_part(s: &mut [f64], to: usize, k: usize, again: Move)
 }
 
 // The ring without its last point, which repeats the first, begun at k, put on a branch, and closed
-// anew. `begin_ring_at` and `align_cuts` both turn a ring so.
+// anew. `begin_ring_at`, `reseam` and `align_cuts` turn a ring so.
 fn turn(s: &mut [f64], k: usize, again: Move, put: Move)
     requires { ⌜ 2 ≤ length (now s) ⌝ }
     ensures { λ _. ⌜ now (s .exit) ≡ turnedOnto (movedBy again) (movedBy put) k (now (s .entry)) ⌝ }
@@ -123,6 +123,19 @@ pub fn begin_ring_at(s: &mut [f64], k: usize, again: Move)
         return;
     }
     if s.len() < 4 {
+        return;
+    }
+    turn(s, k, again, Move::Stay);
+}
+
+// A ring cut anew at its open point k.
+pub fn recut_at(s: &mut [f64], k: usize, again: Move)
+    ensures { λ _. ⌜ now (s .exit) ≡ recutAt (movedBy again) k (now (s .entry)) ⌝ }
+{
+    if k == 0 {
+        return;
+    }
+    if s.len() < 2 {
         return;
     }
     turn(s, k, again, Move::Stay);

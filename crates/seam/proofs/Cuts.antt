@@ -12,8 +12,8 @@ use Rattle.lists.specs.Placed.{placed}
 use Rattle.lists.proofs.Pieces.{length-pieces}
 use Rattle.lists.proofs.Placed.{placed-whole}
 use Rattle.numbers.specs.Rounded.{_⊕_}
-use Rattle.loops.specs.Rings.{begun}
-use Rattle.rings.specs.Choices.{leastU, greatestU, firstPast}
+use Rattle.rings.specs.Choices.{leastU, greatestU, firstOpenPast}
+use Rattle.rings.specs.Turns.{recutAt}
 use Rattle.rings.specs.Moves.{movedBy}
 use Rattle.rings.specs.declared.moves.Move.the-variants.{Up}
 use Rattle.seam.specs.declared.gap.Gap.{Gap}
@@ -84,14 +84,14 @@ module _ (ns : List ℕ) (us : List Float) where
 
 -- ---- a ring cut anew
 
-pub recut-is : (period cut : Float) (us us′ : List Float) (k : ℕ) → k ≡ firstPast cut us → us′ ≡ begun (movedBy (Up period)) k us → (k ≡ firstPast cut us) × (us′ ≡ recutU period cut us)
+pub recut-is : (period cut : Float) (us us′ : List Float) (k : ℕ) → k ≡ firstOpenPast cut us → us′ ≡ recutAt (movedBy (Up period)) k us → (k ≡ firstOpenPast cut us) × (us′ ≡ recutU period cut us)
 unfolding recutU
-recut-is period cut us us′ k e d = (e, d ∙ ap (λ (n : ℕ). begun (λ u. u ⊕ period) n us) e)
+recut-is period cut us us′ k e d = (e, d ∙ ap (λ (n : ℕ). recutAt (λ u. u ⊕ period) n us) e)
 
 pub anew-is : (period cut : Float) (ns : List ℕ) (first first′ later later′ holes holes′ : List Float) (j k : ℕ)
-    → (j ≡ firstPast cut first) × (first′ ≡ recutU period cut first) → (k ≡ firstPast cut later) × (later′ ≡ recutU period cut later)
+    → (j ≡ firstOpenPast cut first) × (first′ ≡ recutU period cut first) → (k ≡ firstOpenPast cut later) × (later′ ≡ recutU period cut later)
     → holes′ ≡ mapPieces (ontoU period cut) ns holes
-    → (Recut j k ≡ Recut (firstPast cut first) (firstPast cut later)) × ((first′ ≡ recutU period cut first) × ((later′ ≡ recutU period cut later) × (holes′ ≡ ontoAll period ns cut holes)))
+    → (Recut j k ≡ Recut (firstOpenPast cut first) (firstOpenPast cut later)) × ((first′ ≡ recutU period cut first) × ((later′ ≡ recutU period cut later) × (holes′ ≡ ontoAll period ns cut holes)))
 unfolding ontoAll
 anew-is period cut ns first first′ later later′ holes holes′ j k (a, b) (c, d) e = ((λ i. Recut (a i) (c i)), (b, (d, e)))
 
@@ -121,7 +121,7 @@ module _ (period : Float) (ns : List ℕ) (s : Us) (place : Cut) where
   kept-at e = (sym (ap (λ (p : Cut). startsAt p s) e), sym (ap (λ (p : Cut). cutAtU period ns p s) e))
 
   pub anew-at : (cut : Float) (first′ later′ holes′ : List Float) (r : Reseamed) → place ≡ At cut
-      → (r ≡ Recut (firstPast cut (s .first)) (firstPast cut (s .later))) × ((first′ ≡ recutU period cut (s .first)) × ((later′ ≡ recutU period cut (s .later)) × (holes′ ≡ ontoAll period ns cut (s .holes))))
+      → (r ≡ Recut (firstOpenPast cut (s .first)) (firstOpenPast cut (s .later))) × ((first′ ≡ recutU period cut (s .first)) × ((later′ ≡ recutU period cut (s .later)) × (holes′ ≡ ontoAll period ns cut (s .holes))))
       → (r ≡ startsAt place s) × (us first′ later′ holes′ ≡ cutAtU period ns place s)
   unfolding startsAt cutAtU
   anew-at cut first′ later′ holes′ r e (a, (b, (c, d))) = (a ∙ sym (ap (λ (p : Cut). startsAt p s) e), all ∙ sym (ap (λ (p : Cut). cutAtU period ns p s) e))

@@ -1,4 +1,5 @@
--- Where `reseam` cuts anew: the middle of the widest stretch of the strip that no hole covers.
+-- Where `reseam` cuts anew: the middle of the widest stretch between the ends of the strip that no hole covers. What of a hole lies past the strip's end is not
+-- counted at its begin, as in the Rust.
 use Prim.Native.Nat.{ℕ, suc}
 use mathlib.Core.Bool.{Bool, cond, not, _||_}
 use mathlib.Core.List.{List, [], _∷_, _++_, map, foldl}

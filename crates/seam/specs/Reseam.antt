@@ -8,8 +8,8 @@ use lib.Ieee.Scale.{finite}
 use lib.ListN.{length}
 use Rattle.lists.specs.Pieces.{pieces, mapPieces}
 use Rattle.numbers.specs.Rounded.{_⊕_}
-use Rattle.loops.specs.Rings.{begun}
-use Rattle.rings.specs.Choices.{leastU, greatestU, firstPast}
+use Rattle.rings.specs.Choices.{leastU, greatestU, firstOpenPast}
+use Rattle.rings.specs.Turns.{recutAt}
 use Rattle.seam.specs.Gap.{spanOf, widestGap, usable}
 use Rattle.seam.specs.Holes.{ontoU, anyStraddles}
 use Rattle.seam.specs.declared.gap.Gap.{Gap}
@@ -40,12 +40,12 @@ hasRoom counts m n = leb (length counts) m && leb (length counts) n
 -- whether the rings are cut anew, and the points where they then begin
 unfoldable pub startsAt : Cut → Us → Reseamed
 startsAt Keep s = Kept
-startsAt (At cut) s = Recut (firstPast cut (s .first)) (firstPast cut (s .later))
+startsAt (At cut) s = Recut (firstOpenPast cut (s .first)) (firstOpenPast cut (s .later))
 
 module _ (period : Float) where
-  -- a ring begun at its first point at or past the cut, its repeated last point among the others (02, N4 mends this)
+  -- a ring cut anew at its first open point at or past the cut (02, N4)
   unfoldable pub recutU : Float → List Float → List Float
-  recutU cut us = begun (λ u. u ⊕ period) (firstPast cut us) us
+  recutU cut us = recutAt (λ u. u ⊕ period) (firstOpenPast cut us) us
 
   module _ (counts : List ℕ) where
     unfoldable pub ontoAll : Float → List Float → List Float

@@ -4,7 +4,7 @@ ghost use mathlib.Core.List.{List, map};
 ghost use Prim.Native.Nat.{_≤_};
 ghost use lib.ListN.{length};
 ghost use Rattle.lists.specs.Pieces.{pieces};
-ghost use Rattle.rings.specs.Choices.{firstPast};
+ghost use Rattle.rings.specs.Choices.{firstOpenPast};
 ghost use Rattle.seam.specs.Gap.{spanOf, widestGap};
 ghost use Rattle.seam.specs.Reseam.{us, hasStrip, recutU, ontoAll, cutU, startsAt, cutAtU, startsU, reseamU, answer, reseamed};
 ghost use Rattle.seam.specs.declared.reseam.Reseamed.the-variants.{Recut};
@@ -16,11 +16,11 @@ use crate::holes::any_straddles;
 use crate::holes::ends_into;
 use crate::holes::onto_all;
 use numbers::order::is_finite;
-use rings::choices::first_past;
+use rings::choices::first_open_past;
 use rings::choices::greatest_u;
 use rings::choices::least_u;
 use rings::moves::Move;
-use rings::moves::begin;
+use rings::moves::recut_at;
 
 // Whether the rings were cut anew, and the points at which they then begin: their v and their
 // coordinates are still to be begun there.
@@ -78,13 +78,13 @@ fn gap_of(
     gap_between(&mut low[0..n], &mut high[0..n], holes, counts, lo, hi)
 }
 
-// The ring's u begun at its first point at or past the cut.
+// The ring's u cut anew at its first open point at or past the cut.
 fn recut(u: &mut [f64], cut: f64, period: f64) -> usize
-    ensures { λ r. ⌜ r ≡ firstPast cut (now (u .entry)) ⌝ }
+    ensures { λ r. ⌜ r ≡ firstOpenPast cut (now (u .entry)) ⌝ }
     ensures { λ _. ⌜ now (u .exit) ≡ recutU period cut (now (u .entry)) ⌝ }
 {
-    let k = first_past(u, cut);
-    begin(u, k, Move::Up(period));
+    let k = first_open_past(u, cut);
+    recut_at(u, k, Move::Up(period));
     k
 }
 
@@ -97,7 +97,7 @@ fn cut_anew(
     cut: f64,
     period: f64,
 ) -> Reseamed
-    ensures { λ r. ⌜ r ≡ Recut (firstPast cut (now (first .entry))) (firstPast cut (now (later .entry))) ⌝ }
+    ensures { λ r. ⌜ r ≡ Recut (firstOpenPast cut (now (first .entry))) (firstOpenPast cut (now (later .entry))) ⌝ }
     ensures { λ _. ⌜ now (first .exit) ≡ recutU period cut (now (first .entry)) ⌝ }
     ensures { λ _. ⌜ now (later .exit) ≡ recutU period cut (now (later .entry)) ⌝ }
     ensures { λ _. ⌜ now (holes .exit) ≡ ontoAll period (now (counts .entry)) cut (now (holes .entry)) ⌝ }

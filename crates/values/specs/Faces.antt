@@ -1,13 +1,15 @@
--- Bands from bytes to bytes, computed by the prover: walls that have inner rungs, and the rings of a torus exchanged and lifted. They are no part of the
--- values of `judgement` because each edit of that crate has them all computed again.
+-- Bands from bytes to bytes, computed by the prover: walls that have inner rungs, a bore across the seam, and the rings of a torus exchanged and lifted. They are
+-- no part of the values of `judgement` because each edit of that crate has them all computed again.
 use Prim.Native.Nat.{ℕ}
 use mathlib.Core.Path.{_≡_, refl}
 use mathlib.Core.List.{List, [], _∷_, _++_}
-use lib.ListN.{set}
+use lib.IntN.{ℤ, pos, negsuc}
+use lib.ListN.{set, getD}
 use lib.Ieee.{Float, binary64, ofBits, toBits, odd, ofFields, le, lt, eq, ne, neg, add, sub, mul, div, ofInt, toSigned, toUnsigned}
-use Rattle.numbers.specs.Constants.{one, PI, TAU}
+use Rattle.numbers.specs.Constants.{one, H, PI, TAU}
 use Rattle.numbers.specs.Order.{absOf}
 use Rattle.numbers.specs.Position.{same}
+use Rattle.numbers.specs.declared.math.Vec3.{Vec3}
 use Rattle.numbers.specs.Round.{roundAway, floorOf, ceilOf}
 use Rattle.numbers.specs.Rounded.{_⊕_, _⊖_, _⊗_, _⊘_, count as whole}
 use Rattle.numbers.specs.Trig.{sincosOf}
@@ -25,26 +27,29 @@ use Rattle.loops.specs.Mean.{meanOf, sumOf}
 use Rattle.loops.specs.Repeats.{dropMerging, dropSuccessive, dropTrailing, keptFrom, cutBack}
 use Rattle.loops.specs.Rings.{endsMeet, begun, closed as ringClosed, turned}
 use Rattle.loops.specs.Span.{leastOf, greatestOf}
+use Rattle.loops.specs.Steps.{net, netOf, count, stepsRound, stepsAlong}
 use Rattle.loops.specs.Wrap.{netWrap, turnsCounted}
-use Rattle.rings.specs.Choices.{leastU, greatestU, stripShift, straddles, nearest, firstLeast, firstFrom as startFrom, serve, beginsBackward, standsAtTheCut}
+use Rattle.rings.specs.Choices.{leastU, greatestU, firstPast, firstOpenPast, stripShift, straddles, nearest, firstLeast, firstFrom as startFrom, serve, beginsBackward, standsAtTheCut}
 use Rattle.rings.specs.Starts.{alignedU, slidU, firstFor, laterFor, serves, firstServing, start as startOf}
 use Rattle.rings.specs.Turns.{unlessZero, beginRingAt, turnedOnto, alignAt}
+use Rattle.seam.specs.Gap.{insert, sorted, passed, gapAlong, widestGap, usable}
 use Rattle.bands.specs.Band.{firstIsLower, lift, joined, lowerFirst, lowerRing, upperRing, stripOf, outer, holes}
 use Rattle.bands.specs.Given.{only, givenOf}
-use Rattle.bands.specs.Rings.{rising, shifted, laid, onto, onStrip, anyStraddles, acrossSeam, hasStrip, reseam, alignCuts, slideToCut, trial, started}
+use Rattle.bands.specs.Rings.{rising, shifted, laid, onto, onStrip, anyStraddles, acrossSeam, gapOf, recut, cutAnew, hasStrip, hasGap, reseam, alignCuts, slideToCut, trial, started}
 use Rattle.bands.specs.Strip.{ladder, heights, strip}
 use Rattle.records.specs.Bytes.{number, numberAt, realAt, uvAt, xyzAt, rowAt, bytes, real, uv, xyz, row, sum}
 use Rattle.records.specs.Call as Call
 use Rattle.records.specs.Call.{closed}
-use Rattle.records.specs.Face.{start, counts, parameters, positions}
+use Rattle.records.specs.Face.{start, counts, parameters, positions, loopPositions}
 use Rattle.records.specs.Limits.{0·0, 1·5, holds, headRange, radius, second, uvRange, uRange, vRange, range}
 use Rattle.records.specs.Refusals.{verdict, firstFrom, tooFewLent, wrongByte, wrongHeader, tooManyLoops, endsInCounts, tooFewPoints, tooManyPoints, wrongLength, badReal, firstBadReal}
-use Rattle.records.specs.Result.{encode, resultOf, cornersOf as together}
+use Rattle.records.specs.Result.{encode, decode, countsIn, cornersIn as cornersBack, loopPositionsOf, resultOf, cornersOf as together}
 use Rattle.judgement.specs.Face.{frameIn, surfaceOf, surfaceIn, optionsIn, senseIn, cornersFrom, cornersIn, loopsIn, measuredIn, wrapping, settingIn, givenIn}
 use Rattle.judgement.specs.Later.{loopIn, openRing, oneRing, manyRings, openSurface, stripPoints, longStrip}
 use Rattle.judgement.specs.Paths.{loopsFrom, wrappedLoops, pathIn, resultLoops, resultIn}
 use Rattle.judgement.specs.Judge.{judge}
-use Rattle.judgement.specs.Values.{band, risingUv, risingXyz, fallingUv, fallingXyz, shortUv, shortXyz}
+use Rattle.judgement.specs.Demands.{outerPositions}
+use Rattle.judgement.specs.Values.{head, -1·0, band, risingUv, risingXyz, fallingUv, fallingXyz, shortUv, shortXyz, holeXyz}
 
 -- ---- a cylinder between v 0 and v 1 with at least three segments: two inner rungs, and a wall point (1, 0, v) at each
 
@@ -63,6 +68,46 @@ walledWritten =
     (1 ∷ 1 ∷ 0 ∷ 0 ∷ 12 ∷ 0 ∷ [])
     ++ row real (TAU ∷ risingUv 0·0 ++ (TAU ∷ ⅓ ∷ TAU ∷ ⅔ ∷ fallingUv one ++ (0·0 ∷ ⅔ ∷ 0·0 ∷ ⅓ ∷
     risingXyz 0·0 ++ (one ∷ 0·0 ∷ ⅓ ∷ one ∷ 0·0 ∷ ⅔ ∷ fallingXyz one ++ (one ∷ 0·0 ∷ ⅔ ∷ one ∷ 0·0 ∷ ⅓ ∷ [])))))
+
+-- ---- 02, N4: a cross-drilled bush, the band of `judgement` with a bore across the place where both rings begin
+
+-- The bore is from u -1 to 1. Brought onto the strip it is from 5.28 to 7.28, so that `reseam` finds the gap from 0 to 5.28 and cuts at 2.64: the first open points
+-- past that are those at PI.
+abbrev bush : List ℕ
+bush =
+    (1 ∷ 1 ∷ 3 ∷ 1 ∷ 1 ∷ 4 ∷ 0 ∷ 4 ∷ 0 ∷ 3 ∷ 0 ∷ [])
+    ++ row real (head 1·5 ++ (risingUv 0·0 ++ (fallingUv one ++ (-1·0 ∷ 0·0 ∷ one ∷ 0·0 ∷ one ∷ one ∷ risingXyz 0·0 ++ (fallingXyz one ++ holeXyz)))))
+
+-- the rings' positions from there on, with u rising and with u falling
+abbrev turnedXyz : Float → List Float
+turnedXyz z = -1·0 ∷ 0·0 ∷ z ∷ one ∷ 0·0 ∷ z ∷ 0·0 ∷ one ∷ z ∷ -1·0 ∷ 0·0 ∷ z ∷ []
+
+abbrev turnedBackXyz : Float → List Float
+turnedBackXyz z = -1·0 ∷ 0·0 ∷ z ∷ 0·0 ∷ one ∷ z ∷ one ∷ 0·0 ∷ z ∷ -1·0 ∷ 0·0 ∷ z ∷ []
+
+-- Both rings cut anew: eight corners and an area of TAU, as without the bore. With the rings' repeated last points turned inside, the lower one's corner at H is lost.
+abbrev bushWritten : List ℕ
+bushWritten =
+    let H′ = H ⊕ TAU in
+    let PI′ = PI ⊕ TAU in
+    let bore = (-1·0 ⊕ TAU) ∷ 0·0 ∷ (one ⊕ TAU) ∷ 0·0 ∷ (one ⊕ TAU) ∷ one ∷ [] in
+    (1 ∷ 1 ∷ 1 ∷ 0 ∷ 8 ∷ 0 ∷ 3 ∷ 0 ∷ [])
+    ++ row real (TAU ∷ one ∷ PI ∷ 0·0 ∷ TAU ∷ 0·0 ∷ H′ ∷ 0·0 ∷ PI′ ∷ 0·0 ∷ PI′ ∷ one ∷ H′ ∷ one ∷ TAU ∷ one ∷ PI ∷ one ∷ bore
+    ++ (turnedXyz 0·0 ++ (turnedBackXyz one ++ holeXyz)))
+
+-- the step counts round a list of positions, of each step of the lower ring and of the upper one, u rising
+abbrev place : Float → Float → Float → Vec3
+place x y z = record { x = x; y = y; z = z }
+
+abbrev ringCounts : Float → List Vec3 → List ℤ
+ringCounts z xs =
+    let a = place one 0·0 z in
+    let b = place 0·0 one z in
+    let c = place -1·0 0·0 z in
+    net same a b xs ∷ net same b c xs ∷ net same c a xs ∷ []
+
+abbrev bushCounts : List Vec3 → List ℤ
+bushCounts xs = ringCounts 0·0 xs ++ ringCounts one xs
 
 -- ---- a torus with the radii 2 and 1
 
@@ -141,12 +186,17 @@ pub record Faces : Type 0 where
   pub point₁ : onTorus v₁ ≡ P₁
   pub point₂ : onTorus v₂ ≡ P₂
   pub walled-closed : judge 61614 walled ≡ closed walledWritten
+  pub bush-closed : judge 61614 bush ≡ closed bushWritten
+  -- The step counts round the bush, as it is read from those bytes, are those of its two rings together, each in file order, in which the upper one falls.
+  pub bush-counts : bushCounts (outerPositions bushWritten) ≡ pos 1 ∷ pos 1 ∷ pos 1 ∷ negsuc 0 ∷ negsuc 0 ∷ negsuc 0 ∷ []
+  pub bush-lower : bushCounts (getD (loopPositions bush) 0 []) ≡ pos 1 ∷ pos 1 ∷ pos 1 ∷ pos 0 ∷ pos 0 ∷ pos 0 ∷ []
+  pub bush-upper : bushCounts (getD (loopPositions bush) 1 []) ≡ pos 0 ∷ pos 0 ∷ pos 0 ∷ negsuc 0 ∷ negsuc 0 ∷ negsuc 0 ∷ []
   pub lifted-closed : judge 61614 lifted ≡ closed liftedWritten
   pub against-closed : judge 61614 against ≡ closed againstWritten
   pub exchanged-closed : judge 61614 exchanged ≡ closed exchangedWritten
 
 pub faces : Faces
-unfolding Call.judge verdict tooFewLent wrongByte wrongHeader tooManyLoops endsInCounts tooFewPoints tooManyPoints wrongLength badReal firstBadReal firstFrom number numberAt realAt start bytes real row holds headRange radius second uvRange uRange vRange range ofBits ofFields odd toBits le lt eq ne neg add sub mul div ofInt toSigned toUnsigned absOf roundAway floorOf ceilOf sincosOf sqrtOf lengthOf directionOf normalizedOr leastAxis perpendicularOf frameOf polarOf frameIn surfaceOf surfaceIn optionsIn senseIn cornersFrom cornersIn loopsIn measuredIn wrapping settingIn givenIn loopIn openRing oneRing manyRings openSurface stripPoints longStrip loopsFrom wrappedLoops pathIn resultLoops resultIn encode resultOf together uv xyz uvAt xyzAt rowAt sum counts parameters positions pieces only uPeriod vPeriod areaOf crossSum crossAt leastOf greatestOf netWrap turnsCounted endsMeet same givenOf stripOf strip heights ladder lowerRing upperRing lowerFirst firstIsLower lift joined laid rising shifted leastU greatestU reseam hasStrip acrossSeam onStrip anyStraddles started startOf firstServing startFrom serves serve firstFor laterFor alignedU slidU beginsBackward standsAtTheCut trial beginRingAt alignCuts alignAt turnedOnto nearest firstLeast slideToCut unlessZero turned begun ringClosed meanOf sumOf onto stripShift straddles inner rungs endedOn keptDivisions keptAfter near rungSlack divisionsFrom division vStepsOf segmentsOf angleStepOf sagAngle raisedOf torusOf pointOf outer holes dropMerging dropSuccessive dropTrailing keptFrom cutBack
+unfolding Call.judge verdict tooFewLent wrongByte wrongHeader tooManyLoops endsInCounts tooFewPoints tooManyPoints wrongLength badReal firstBadReal firstFrom number numberAt realAt start bytes real row holds headRange radius second uvRange uRange vRange range ofBits ofFields odd toBits le lt eq ne neg add sub mul div ofInt toSigned toUnsigned absOf roundAway floorOf ceilOf sincosOf sqrtOf lengthOf directionOf normalizedOr leastAxis perpendicularOf frameOf polarOf frameIn surfaceOf surfaceIn optionsIn senseIn cornersFrom cornersIn loopsIn measuredIn wrapping settingIn givenIn loopIn openRing oneRing manyRings openSurface stripPoints longStrip loopsFrom wrappedLoops pathIn resultLoops resultIn encode resultOf together uv xyz uvAt xyzAt rowAt sum counts parameters positions pieces only uPeriod vPeriod areaOf crossSum crossAt leastOf greatestOf netWrap turnsCounted endsMeet same givenOf stripOf strip heights ladder lowerRing upperRing lowerFirst firstIsLower lift joined laid rising shifted leastU greatestU reseam hasStrip hasGap acrossSeam onStrip anyStraddles gapOf cutAnew recut firstOpenPast firstPast widestGap gapAlong sorted insert passed usable started startOf firstServing startFrom serves serve firstFor laterFor alignedU slidU beginsBackward standsAtTheCut trial beginRingAt alignCuts alignAt turnedOnto nearest firstLeast slideToCut unlessZero turned begun ringClosed meanOf sumOf onto stripShift straddles inner rungs endedOn keptDivisions keptAfter near rungSlack divisionsFrom division vStepsOf segmentsOf angleStepOf sagAngle raisedOf torusOf pointOf outer holes dropMerging dropSuccessive dropTrailing keptFrom cutBack net netOf count stepsRound stepsAlong decode countsIn cornersBack loopPositionsOf loopPositions
 faces = record {
   third = refl;
   two-thirds = refl;
@@ -157,6 +207,10 @@ faces = record {
   point₁ = refl;
   point₂ = refl;
   walled-closed = refl;
+  bush-closed = refl;
+  bush-counts = refl;
+  bush-lower = refl;
+  bush-upper = refl;
   lifted-closed = refl;
   against-closed = refl;
   exchanged-closed = refl;

@@ -1,7 +1,7 @@
 -- What is stated of the definitions of `numbers`, `surfaces`, `whole` and `bands` beyond the values that document 01 stars: listed here so that a proof of it cannot be deleted alone.
 use Prim.Native.Nat.{ℕ, _^_, _≤_}
 use mathlib.Core.Path.{_≡_}
-use mathlib.Core.Bool.{Bool, true}
+use mathlib.Core.Bool.{Bool, true, false}
 use lib.Dec.{T}
 use lib.Ieee.{Float, le}
 use Rattle.numbers.specs.WholeNumbers.{RoundMeans, FloorMeans, CeilMeans}
@@ -19,6 +19,7 @@ use Rattle.whole.specs.Boundary.{isWhole, uRungs, vRungs}
 use Rattle.bands.specs.Band.{outer}
 use Rattle.bands.specs.Columns.{settingOf, settingWith}
 use Rattle.bands.specs.Given.{Given}
+use Rattle.bands.specs.Rings.{Face, acrossSeam, reseam}
 
 pub record Meanings : Type 0 where
   -- the whole number that the name says, by its distance
@@ -43,3 +44,6 @@ pub record Meanings : Type 0 where
   -- 02, N2, moves no band: with the divisions kept for its rungs, as before, each has the same outer loop. The holes take no rung.
   pub bands : (frame : Frame) (surface : Surface) (options : Resolved) (period : Float) (sense : Bool) (given : Given Vec3)
       → outer (settingOf frame surface options period sense) given ≡ outer (settingWith keptDivisions frame surface options period sense) given
+  -- Rings are cut anew (02, N4) only where a hole lies across the seam: elsewhere `reseam` leaves both as they are.
+  pub clear-bands : (period : Float) (face : Face Vec3) → acrossSeam period face ≡ false
+      → (reseam period face .first ≡ face .first) × (reseam period face .later ≡ face .later)

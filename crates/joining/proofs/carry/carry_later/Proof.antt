@@ -3,8 +3,8 @@ use borrow.Author.Needs.{needs}
 use Rattle.joining.proofs.carry.carry_later.Statement.{statement}
 use Rattle.joining.proofs.carry.carry_later.Tie as tie
 
-begin-requires : tie.Need-begin-requires
-begin-requires c κs = search needs
+recut-at-requires : tie.Need-recut-at-requires
+recut-at-requires c κs = search needs
 
 align-at-requires : tie.Need-align-at-requires
 align-at-requires c κs = search needs
@@ -16,4 +16,4 @@ returns : tie.Need-returns
 returns c = search (later-carried, needs)
 
 pub carry-later-spec : {M : Type 1} → statement M
-carry-later-spec = tie.close (tie.spec begin-requires align-at-requires same-length returns)
+carry-later-spec = tie.close (tie.spec recut-at-requires align-at-requires same-length returns)

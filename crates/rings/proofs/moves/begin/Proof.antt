@@ -1,5 +1,6 @@
 use mathlib.Core.Path.{_∙_}
-use Rattle.rings.proofs.Turning.{begun-past, begun-here}
+use Rattle.loops.proofs.Turns.{begun-past}
+use Rattle.rings.proofs.Turning.{begun-here}
 use Rattle.rings.specs.Moves.{movedBy}
 use borrow.Author.Needs.{needs}
 use Rattle.rings.proofs.moves.begin.Statement.{statement}
