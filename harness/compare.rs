@@ -12,6 +12,8 @@ mod closer;
 mod compared;
 mod compared_bands;
 #[cfg(closer)]
+mod demands;
+#[cfg(closer)]
 mod edges;
 mod faces;
 mod generator;

@@ -80,8 +80,6 @@ pub fn judge(lent: usize, record: &[u8]) -> Answer {
 pub fn check(record: &[u8]) -> Result<Face, Answer> {
     header(record)?;
     let counts = counts(record)?;
-    noted(Branch::SixteenLoops, counts.len() == 16);
-    noted(Branch::PointsAt512, counts.iter().sum::<usize>() == 512);
     let reals = reals(record, counts.len());
     in_range(record, &reals)?;
     Ok(face(record, &counts, &reals))
@@ -92,6 +90,8 @@ fn closed(lent: usize, record: &[u8]) -> Result<Vec<u8>, Answer> {
         refused(1, LENT)?;
     }
     let face = check(record)?;
+    noted(Branch::SixteenLoops, face.loops.len() == 16);
+    noted(Branch::PointsAt512, face.loops.iter().map(|l| l.uv.len()).sum::<usize>() == 512);
     let loops = loops_of(&face);
     which_wrap(&face, &loops)?;
     let closing =

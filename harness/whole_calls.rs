@@ -4,21 +4,18 @@
 use crate::branches::{BANDS, LEAST, LIMITS, REGIONS, all_met, face_done, forget};
 use crate::calls::{Call, call};
 use crate::closer::close_face;
+use crate::demands::Demands;
 use crate::edges::{self, pairs};
 use crate::judge::{Answer, LENT, judge};
 use crate::report::{Check, Run};
 use crate::shapes::KINDS;
-use crate::steps::{self, left_over};
+use crate::steps;
 use crate::triangle;
 
 const CALLS: u64 = 250_000;
 
 /// So many pairs of refusals are met by one call: all that a record can meet at once.
 const PAIRS: usize = 59;
-
-/// The path byte of a whole surface, and the fewest corners of one: three steps along each side.
-const WHOLE: u8 = 2;
-const FEWEST: usize = 12;
 
 pub fn compare(run: &Run) {
     let mut check = run.check("close_face");
@@ -29,18 +26,19 @@ pub fn compare(run: &Run) {
         std::process::exit(1);
     }
     let mut met = Met::default();
+    let mut demands = Demands::default();
     forget();
     let mut see = |check: &mut Check, edge: bool, call: &Call| {
         let expected = judge(call.lent, &call.record);
         met.note(call, &expected);
-        face_done();
+        let branches = face_done();
         let pattern = check.random.below(2) as usize;
         let rattle = lent.called(call, pattern);
         let given = [&(call.lent as u32).to_le_bytes(), &call.record[..]].concat();
         check.see_bytes(edge, &given, &rattle, &told(&expected));
-        if matches!(&expected, Answer::Closed(result) if result[1] == WHOLE) {
+        if matches!(&expected, Answer::Closed(_)) {
             // Before the result stand the code, the value and a byte that changed.
-            hold_still(call, &rattle[24..]);
+            demands.check(&call.record, &rattle[24..], &branches);
         }
     };
     edges::each(&mut |call| see(&mut check, true, call));
@@ -49,9 +47,9 @@ pub fn compare(run: &Run) {
         see(&mut check, false, &call);
     }
     check.done();
-    let all = [met.all(), all_met(&[REGIONS, BANDS, LIMITS].concat())];
+    let all = [met.all(), demands.all(), all_met(&[REGIONS, BANDS, LIMITS].concat())];
     if all.contains(&false) {
-        println!("comparison: the calls leave a path, a refusal, a branch or a limit out");
+        println!("comparison: the calls leave a path, a refusal, a claim, a branch or a limit out");
         std::process::exit(1);
     }
 }
@@ -71,25 +69,6 @@ fn triangle_closes(lent: &mut Lent) {
         }
     }
     println!("comparison: the call closes document 01's triangle, 231 bytes, to its 134 bytes");
-}
-
-/// 02, N2: "For a whole sphere or torus the step count of every pair of positions is then zero."
-/// The positions stand behind the header, one count, one area and the parameters.
-fn hold_still(call: &Call, result: &[u8]) {
-    let corners = usize::from(u16::from_le_bytes([result[4], result[5]]));
-    let reals: Vec<f64> = result[14 + 16 * corners..]
-        .chunks_exact(8)
-        .map(|bytes| f64::from_le_bytes(bytes.try_into().expect("eight bytes")))
-        .collect();
-    let positions: Vec<[f64; 3]> = reals.chunks_exact(3).map(|p| [p[0], p[1], p[2]]).collect();
-    let left = left_over(&positions);
-    if corners < FEWEST || positions.len() != corners || left > 0 {
-        println!(
-            "comparison: a whole surface of {corners} corners: {left} pairs of positions have steps left over"
-        );
-        println!("  record: {:02x?}", call.record);
-        std::process::exit(1);
-    }
 }
 
 /// What is to be told of a call: the code, the value, the first byte that changed and was to stay,
