@@ -1,7 +1,6 @@
--- A ring cut anew, as the code turns each of its slices: the point is one of its open points, so the code's floor leaves no ring.
+-- A ring cut anew, as the code turns each of its slices: the point is one of its open points, so no ring is too short for it.
 use Prim.Native.Nat.{_-_, _≤_}
 use mathlib.Core.Path.{_≡_}
-use mathlib.Core.Bool.{cond}
 use native.Mathlib.Omega.{arith}
 use lib.Ieee.{Float}
 use lib.ListN.{length, length-map}

@@ -1,5 +1,5 @@
 -- A ring turned in place: three reversals, a step for what comes round, and the closing point.
-use Prim.Native.Nat.{ℕ, zero, suc, _+_, _-_, _≤_, _<_}
+use Prim.Native.Nat.{ℕ, _+_, _-_, _≤_, _<_}
 use mathlib.Core.Path.{_≡_, refl, sym, ap, _∙_}
 use mathlib.Core.List.{List, [], _∷_, _++_, map, reverse, reverse-append, reverse-reverse, append-nil, dropLast, map-id}
 use mathlib.Core.Bool.{Bool, true, false, cond, _||_}
@@ -7,8 +7,8 @@ use native.Mathlib.Omega.{arith}
 use borrow.Author.Tests.{lt-ltb, le-ltb, ne-eqb, eqb-false}
 use lib.Dec.{ltb, eqb}
 use lib.Ieee.{Float, ne}
-use lib.ListN.{length, getD, set, take, drop, length-append, length-reverse, length-map, length-drop, take-append-drop, drop-of-length-le}
-use lib.Seq.{set-at, take-all, length-take-le}
+use lib.ListN.{length, getD, set, take, drop, length-reverse, length-map, length-drop, take-append-drop}
+use lib.Seq.{set-at, length-take-le}
 use Rattle.lists.specs.Parts.{onPart}
 use Rattle.lists.proofs.Parts.{on-part}
 use Rattle.numbers.specs.Constants.{plusZero}
