@@ -22,7 +22,7 @@ use Rattle.loops.proofs.RepeatsLaw.{net-dropRepeats}
 use Rattle.loops.proofs.Projections.{map-dropRepeats}
 use Rattle.bands.specs.Corners.{Corner, Corners, us, positions, moveU, moveV}
 use Rattle.rings.specs.Choices.{firstOf, firstOpenPast, nearest}
-use Rattle.rings.specs.Turns.{beginRingAt, recutAt, turnedOnto, alignAt}
+use Rattle.rings.specs.Turns.{turnedUnless, beginRingAt, recutAt, turnedOnto, alignAt}
 use Rattle.rings.specs.Starts.{start}
 use Rattle.rings.proofs.Carried.{map-unchanged, unless-unchanged, map-cond, map-unlessZero, map-beginRingAt, map-recutAt, map-alignAt}
 use Rattle.bands.specs.Given.{Loop, Given}
@@ -51,19 +51,15 @@ module _ {A : Type 0} where
   turn-if true k xs = inl refl
   turn-if false k xs = inr (k, refl)
 
-  begin-turn : (k : ℕ) (xs : List A) → Turn xs (beginRingAt unchanged k xs)
-  unfolding beginRingAt
-  begin-turn k xs = turn-if (eqb k 0 || ltb (length xs) 4) k xs
+  unless-turn : (few k : ℕ) (xs : List A) → Turn xs (turnedUnless few unchanged k xs)
+  unfolding turnedUnless
+  unless-turn few k xs = turn-if (eqb k 0 || ltb (length xs) few) k xs
 
   align-turn : (k : ℕ) (xs : List A) → Turn xs (alignAt unchanged unchanged k xs)
   unfolding alignAt turnedOnto turned
   align-turn k xs =
       subst (λ (ys : List A). Turn xs (cond (ltb (length xs) 3) xs (closed unchanged ys))) (sym (map-unchanged (begun unchanged k _)))
       (turn-if (ltb (length xs) 3) k xs)
-
-  recut-turn : (k : ℕ) (xs : List A) → Turn xs (recutAt unchanged k xs)
-  unfolding recutAt
-  recut-turn k xs = turn-if (eqb k 0 || ltb (length xs) 2) k xs
 
   -- two turns are one
   turn-on : (xs ys zs : List A) → Turn xs ys → Turn ys zs → Turn xs zs
@@ -107,7 +103,7 @@ module _ {A : Type 0} (period : Float) where
       let k = firstOpenPast cut (us r) in
       let turned : positions (recut period cut r) ≡ recutAt unchanged k (positions r) =
       ap positions (recut-is cut r period) ∙ map-recutAt at (raised period) unchanged (λ c. refl) k r in
-      subst (Turn (positions r)) (sym turned) (recut-turn k (positions r))
+      subst (Turn (positions r)) (sym turned) (unless-turn 2 k (positions r))
 
   reseam-turn : (part : Face A → Corners A) (face : Face A) → part (onStrip period face) ≡ part face
       → part (cutAnew period face) ≡ recut period (gapOf period face .cut) (part face) → Turn (positions (part face)) (positions (part (reseam period face)))
@@ -153,7 +149,7 @@ module _ {A : Type 0} (period : Float) where
 
   begun-turn : (k : ℕ) (r : Corners A) → Turn (positions r) (positions (beginRingAt (raised period) k r))
   begun-turn k r =
-      subst (Turn (positions r)) (sym (map-beginRingAt at (raised period) unchanged (λ c. refl) k r)) (begin-turn k (positions r))
+      subst (Turn (positions r)) (sym (map-beginRingAt at (raised period) unchanged (λ c. refl) k r)) (unless-turn 4 k (positions r))
 
   aligned-turn : (cut : Float) (r : Corners A) → Turn (positions r) (positions (slideToCut period cut (alignCuts period cut r)))
   unfolding slideToCut alignCuts

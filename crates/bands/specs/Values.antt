@@ -16,7 +16,7 @@ use Rattle.loops.specs.Span.{leastOf, greatestOf}
 use Rattle.loops.specs.Wrap.{netWrap, turnsCounted}
 use Rattle.bands.specs.Corners.{Corner, Corners, us, positions}
 use Rattle.rings.specs.Choices.{leastU, greatestU, firstPast, firstOpenPast, stripShift, straddles, nearest, firstLeast, firstFrom, serve, beginsBackward, standsAtTheCut}
-use Rattle.rings.specs.Turns.{unlessZero, beginRingAt, turnedOnto, alignAt}
+use Rattle.rings.specs.Turns.{unlessZero, turnedUnless, turnedOnto, alignAt}
 use Rattle.rings.specs.Starts.{alignedU, slidU, firstFor, laterFor, serves, firstServing, start}
 use Rattle.bands.specs.Given.{Measured, Given, only, givenOf}
 use Rattle.bands.specs.Rings.{Face, rising, shifted, laid, onto, onStrip, anyStraddles, acrossSeam, gapOf, recut, cutAnew, hasStrip, hasGap, reseam, alignCuts, slideToCut, trial, started}
@@ -135,7 +135,7 @@ tube-strip : stripOf plain tube
     ≡ corner r0 r0 10 ∷ corner r1 r0 11 ∷ corner r2 r0 12 ∷ corner r4 r0 10 ∷ corner r4 r0 10
     ∷ corner r4 r4 40 ∷ corner r4 r5 50 ∷ corner r4 r1 20 ∷ corner r4 r1 20
     ∷ corner r2 r1 22 ∷ corner r1 r1 21 ∷ corner r0 r1 20 ∷ corner r0 r5 50 ∷ corner r0 r4 40 ∷ []
-unfolding stripOf strip heights ladder lowerRing upperRing lowerFirst firstIsLower lift joined laid rising shifted leastU greatestU reseam hasStrip acrossSeam onStrip anyStraddles started start firstServing firstFrom serves serve firstFor laterFor alignedU slidU beginsBackward standsAtTheCut trial beginRingAt alignCuts alignAt turnedOnto nearest firstLeast slideToCut unlessZero turned begun closed leastOf greatestOf meanOf sumOf absOf roundAway plain tube givenOf only lowLoop highLoop bore onto stripShift straddles floorOf add sub mul div neg lt le eq ne ofBits ofInt inner
+unfolding stripOf strip heights ladder lowerRing upperRing lowerFirst firstIsLower lift joined laid rising shifted leastU greatestU reseam hasStrip acrossSeam onStrip anyStraddles started start firstServing firstFrom serves serve firstFor laterFor alignedU slidU beginsBackward standsAtTheCut trial turnedUnless alignCuts alignAt turnedOnto nearest firstLeast slideToCut unlessZero turned begun closed leastOf greatestOf meanOf sumOf absOf roundAway plain tube givenOf only lowLoop highLoop bore onto stripShift straddles floorOf add sub mul div neg lt le eq ne ofBits ofInt inner
 tube-strip = refl
 
 -- the repeats are gone
@@ -164,7 +164,7 @@ tube-steps-upper = ap (net eqb 21 22) tube-outer
 
 offset-trial : us (trial r4 0 (record { first = corner r0 r0 A ∷ corner r1 r0 B ∷ corner r2 r0 C ∷ corner r4 r0 A ∷ []; later = corner r1 r0 A ∷ corner r2 r0 B ∷ corner r3 r0 C ∷ corner r5 r0 A ∷ []; holes = [] }) .later)
     ≡ r0 ∷ r1 ∷ r2 ∷ r4 ∷ []
-unfolding trial beginRingAt alignCuts alignAt turnedOnto nearest firstLeast slideToCut unlessZero begun closed absOf roundAway add sub mul div neg lt ne ofBits
+unfolding trial turnedUnless alignCuts alignAt turnedOnto nearest firstLeast slideToCut unlessZero begun closed absOf roundAway add sub mul div neg lt ne ofBits
 offset-trial = refl
 
 -- ---- which ring is lower: of equal means the first, and on a torus the one that goes with the face
@@ -382,7 +382,7 @@ record Values : Type 0 where
   against-sense-lifted : stripOf (torus false) (rising-at r1 r2) ≡ up-from-falling r2 r5
 
 values : Values
-unfolding stripOf strip heights ladder lowerRing upperRing lowerFirst firstIsLower lift joined holes laid rising shifted leastU greatestU reseam hasStrip acrossSeam onStrip anyStraddles gapOf hasGap cutAnew recut firstOpenPast firstPast widestGap gapAlong sorted insert passed usable started start firstServing firstFrom serves serve firstFor laterFor alignedU slidU beginsBackward standsAtTheCut trial beginRingAt alignCuts alignAt turnedOnto nearest firstLeast slideToCut unlessZero turned begun closed leastOf greatestOf meanOf sumOf absOf roundAway plain givenOf only lowLoop highLoop five four drilled atCut beforeCut threeUp threeDown twiceUp twiceDown netWrap turnsCounted toSigned further reaches slot bored pierced late unserved thirds torus rising-at up-from-rising up-from-falling onto stripShift straddles floorOf add sub mul div neg lt le eq ne ofBits ofInt inner rungs endedOn keptDivisions keptAfter near slackOf divisionsFrom division outer dropMerging dropSuccessive dropTrailing keptFrom cutBack
+unfolding stripOf strip heights ladder lowerRing upperRing lowerFirst firstIsLower lift joined holes laid rising shifted leastU greatestU reseam hasStrip acrossSeam onStrip anyStraddles gapOf hasGap cutAnew recut firstOpenPast firstPast widestGap gapAlong sorted insert passed usable started start firstServing firstFrom serves serve firstFor laterFor alignedU slidU beginsBackward standsAtTheCut trial turnedUnless alignCuts alignAt turnedOnto nearest firstLeast slideToCut unlessZero turned begun closed leastOf greatestOf meanOf sumOf absOf roundAway plain givenOf only lowLoop highLoop five four drilled atCut beforeCut threeUp threeDown twiceUp twiceDown netWrap turnsCounted toSigned further reaches slot bored pierced late unserved thirds torus rising-at up-from-rising up-from-falling onto stripShift straddles floorOf add sub mul div neg lt le eq ne ofBits ofInt inner rungs endedOn keptDivisions keptAfter near slackOf divisionsFrom division outer dropMerging dropSuccessive dropTrailing keptFrom cutBack
 values = record {
   one-branch = refl;
   not-past = refl;

@@ -10,7 +10,7 @@ use Rattle.rings.specs.Choices.{firstOf, firstOpenPast, nearest}
 use Rattle.rings.specs.Turns.{beginRingAt, recutAt, alignAt}
 use Rattle.rings.specs.Starts.{firstFor, start}
 use Rattle.rings.proofs.Carried.{unless-unchanged, map-unlessZero, map-beginRingAt, map-recutAt, map-alignAt}
-use Rattle.rings.proofs.Turning.{recut-none}
+use Rattle.rings.proofs.Turning.{stays-at}
 use Rattle.seam.specs.declared.reseam.Reseamed.{Reseamed}
 use Rattle.seam.specs.declared.reseam.Reseamed.the-variants.{Kept, Recut}
 use Rattle.seam.specs.Reseam.{Us, reseamU, startsU, startsAt, cutU, onStripU, seamU, gapOfU}
@@ -24,7 +24,7 @@ use Rattle.joining.proofs.Held.{Held, strip-is, across-is, usable-is, c
 -- g is what a corner carries: no move along u changes it
 module _ (period : Float) (counts : List ℕ) {A B : Type 0} (g : Corner A → B) (stays : (f : Float → Float) (c : Corner A) → g (moveU f c) ≡ g c) where
   unturned : (xs : List B) → recutAt unchanged 0 xs ≡ xs
-  unturned xs = sym (recut-none unchanged 0 xs refl)
+  unturned xs = sym (stays-at unchanged 0 xs 2 refl)
 
   part-recut : (cut : Float) (r : Corners A) → map g (recut period cut r) ≡ recutAt unchanged (firstOpenPast cut (us r)) (map g r)
   part-recut cut r = ap (map g) (recut-is cut r period) ∙ map-recutAt g (raised period) unchanged (stays (λ u. u ⊕ period)) (firstOpenPast cut (us r)) r

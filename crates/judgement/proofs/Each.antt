@@ -13,7 +13,7 @@ use Rattle.numbers.specs.Constants.{plusZero}
 use Rattle.lists.proofs.Elements.{length-dropLast, dropLast-take}
 use Rattle.loops.specs.Repeats.{keep, keptFrom, dropSuccessive, cutBack, dropTrailing, dropMerging, dropRepeats}
 use Rattle.loops.specs.Rings.{begun, closed, turned}
-use Rattle.rings.specs.Turns.{unlessZero, beginRingAt, recutAt, turnedOnto, alignAt}
+use Rattle.rings.specs.Turns.{unlessZero, turnedUnless, beginRingAt, recutAt, turnedOnto, alignAt}
 use Rattle.bands.specs.Given.{only}
 use Rattle.records.specs.Result.{All, none, and}
 
@@ -113,7 +113,7 @@ module _ {A : Type 0} {P : A → Type 0} where
 
     -- a ring cut anew at one of its open points closes with a point that stays
     pub all-recutAt : (k : ℕ) (xs : List A) → k ≤ length xs - 2 → All P xs → All Q (recutAt again k xs)
-    unfolding recutAt turned begun
+    unfolding turnedUnless turned begun
     all-recutAt k xs l h = either (eqb k 0) (ltb (length xs) 2) refl
       where
         points : List A
@@ -137,7 +137,7 @@ module _ {A : Type 0} {P : A → Type 0} where
     same-closed h = all-closed again (λ a p. p) to h
 
     pub all-beginRingAt : (k : ℕ) (xs : List A) → All P xs → All P (beginRingAt again k xs)
-    unfolding beginRingAt turned
+    unfolding turnedUnless turned
     all-beginRingAt k xs h = all-if (eqb k 0 || ltb (length xs) 4) h (same-closed (same-begun k (all-dropLast xs h)))
 
     pub all-alignAt : (put : A → A) → ((a : A) → P a → P (put a)) → (k : ℕ) (xs : List A) → All P xs → All P (alignAt again put k xs)

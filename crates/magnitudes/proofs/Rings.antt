@@ -21,7 +21,7 @@ use Rattle.loops.specs.Branch.{branchShift}
 use Rattle.loops.specs.Rings.{begun, closed, turned}
 use Rattle.loops.specs.Span.{leastOf, greatestOf}
 use Rattle.rings.specs.Choices.{leastU, firstOf, firstOpenPast, firstLeast, stripShift, nearest, offset}
-use Rattle.rings.specs.Turns.{unlessZero, beginRingAt, recutAt, turnedOnto, alignAt}
+use Rattle.rings.specs.Turns.{unlessZero, turnedUnless, beginRingAt, recutAt, turnedOnto, alignAt}
 use Rattle.rings.proofs.Lengths.{length-beginRingAt, length-recutAt, length-alignAt}
 use Rattle.seam.specs.Gap.{Span, spanOf, insert, sorted, passed, gapAlong, widestGap}
 use Rattle.seam.specs.declared.gap.Gap.{Gap}
@@ -293,7 +293,7 @@ module _ {A : Type 0} where
 
   -- begun at point k: what comes round is raised, and its first point once more where the ring is closed
   begin-reach : (k : ℕ) (r : Corners A) → Reach 203 r → Reach 217 (beginRingAt (raised TAU) k r)
-  unfolding beginRingAt turned
+  unfolding turnedUnless turned
   begin-reach k r h = record { some = (let e = length-beginRingAt (raised TAU) k r in let s = h .some in omega arith); each = all }
     where
       all : All (U 217) (beginRingAt (raised TAU) k r)

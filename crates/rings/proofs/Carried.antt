@@ -10,7 +10,7 @@ use Rattle.numbers.specs.Constants.{plusZero}
 use Rattle.lists.proofs.Maps.{map-dropLast}
 use Rattle.loops.specs.Rings.{begun, closed, turned, unchanged}
 use Rattle.loops.proofs.Projections.{map-begun, map-closed, map-turned}
-use Rattle.rings.specs.Turns.{unlessZero, beginRingAt, recutAt, turnedOnto, alignAt}
+use Rattle.rings.specs.Turns.{unlessZero, turnedUnless, beginRingAt, recutAt, turnedOnto, alignAt}
 
 pub map-cond : {A B : Type 0} (g : A → B) (t : Bool) (xs ys : List A) → map g (cond t xs ys) ≡ cond t (map g xs) (map g ys)
 map-cond g true xs ys = refl
@@ -41,18 +41,16 @@ module _ {A B : Type 0} (g : A → B) (f : A → A) (f′ : B → B) (e : (a : A
   map-unlessZero step xs =
       map-cond g (ne step plusZero) (map f xs) xs ∙ ap (λ (l : List B). cond (ne step plusZero) l (map g xs)) (map-each xs)
 
-  map-unless : (few k : ℕ) (xs : List A)
-      → map g (cond (eqb k 0 || ltb (length xs) few) xs (turned f k xs)) ≡ cond (eqb k 0 || ltb (length (map g xs)) few) (map g xs) (turned f′ k (map g xs))
+  map-unless : (few k : ℕ) (xs : List A) → map g (turnedUnless few f k xs) ≡ turnedUnless few f′ k (map g xs)
+  unfolding turnedUnless
   map-unless few k xs =
       map-cond g (eqb k 0 || ltb (length xs) few) xs (turned f k xs)
       ∙ (λ i. cond (eqb k 0 || ltb (sym (length-map xs g) i) few) (map g xs) (map-turned g f f′ e k xs i))
 
   pub map-beginRingAt : (k : ℕ) (xs : List A) → map g (beginRingAt f k xs) ≡ beginRingAt f′ k (map g xs)
-  unfolding beginRingAt
   map-beginRingAt k xs = map-unless 4 k xs
 
   pub map-recutAt : (k : ℕ) (xs : List A) → map g (recutAt f k xs) ≡ recutAt f′ k (map g xs)
-  unfolding recutAt
   map-recutAt k xs = map-unless 2 k xs
 
   module _ (put : A → A) (put′ : B → B) (d : (a : A) → g (put a) ≡ put′ (g a)) where

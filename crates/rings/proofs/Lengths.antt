@@ -12,7 +12,7 @@ use Rattle.numbers.specs.Constants.{plusZero}
 use Rattle.lists.proofs.Elements.{length-dropLast}
 use Rattle.loops.specs.Rings.{begun, closed, turned}
 use Rattle.rings.specs.Choices.{firstFrom, firstPast, firstOpenPast}
-use Rattle.rings.specs.Turns.{unlessZero, beginRingAt, recutAt, turnedOnto, alignAt}
+use Rattle.rings.specs.Turns.{unlessZero, turnedUnless, beginRingAt, recutAt, turnedOnto, alignAt}
 
 module _ {A : Type 0} where
   pub length-if : (n : ℕ) (t : Bool) (xs ys : List A) → length xs ≡ n → length ys ≡ n → length (cond t xs ys) ≡ n
@@ -42,8 +42,8 @@ module _ {A : Type 0} where
         let c = length-closed (begun again k (dropLast xs)) (omega arith) in
         omega arith
 
-    -- a ring of fewer than `few` points stays
-    length-unless : (few k : ℕ) (xs : List A) → 2 ≤ few → length (cond (eqb k 0 || ltb (length xs) few) xs (turned again k xs)) ≡ length xs
+    length-unless : (few k : ℕ) (xs : List A) → 2 ≤ few → length (turnedUnless few again k xs) ≡ length xs
+    unfolding turnedUnless
     length-unless few k xs m = long (eqb k 0) (ltb (length xs) few) refl
       where
         long : (s t : Bool) → ltb (length xs) few ≡ t → length (cond (s || t) xs (turned again k xs)) ≡ length xs
@@ -52,11 +52,9 @@ module _ {A : Type 0} where
         long false false e = length-turned k xs (let h = ltb-false (length xs) few e in omega arith)
 
     pub length-beginRingAt : (k : ℕ) (xs : List A) → length (beginRingAt again k xs) ≡ length xs
-    unfolding beginRingAt
     length-beginRingAt k xs = length-unless 4 k xs (lit≤ tt)
 
     pub length-recutAt : (k : ℕ) (xs : List A) → length (recutAt again k xs) ≡ length xs
-    unfolding recutAt
     length-recutAt k xs = length-unless 2 k xs (lit≤ tt)
 
     pub length-alignAt : (put : A → A) (k : ℕ) (xs : List A) → length (alignAt again put k xs) ≡ length xs

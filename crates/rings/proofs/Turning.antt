@@ -13,7 +13,7 @@ use Rattle.lists.specs.Parts.{onPart}
 use Rattle.lists.proofs.Parts.{on-part}
 use Rattle.numbers.specs.Constants.{plusZero}
 use Rattle.loops.specs.Rings.{begun, closed, turned, unchanged}
-use Rattle.rings.specs.Turns.{unlessZero, beginRingAt, recutAt, turnedOnto, alignAt}
+use Rattle.rings.specs.Turns.{unlessZero, turnedUnless, recutAt, turnedOnto, alignAt}
 use Rattle.lists.proofs.Elements.{length-dropLast}
 use Rattle.rings.proofs.Lengths.{length-begun}
 
@@ -93,7 +93,7 @@ module _ {A : Type 0} (z : A) (f g : A → A) where
           e₂ ∙ ap (onPart (map g) 0 n) d₁
           ∙ on-part (map g) [] (begun f k points) (y ∷ []) 0 n refl (let l = length-points in let b = length-begun f k points in omega arith)
 
--- ---- the guards of `begin_ring_at`, `recut_at`, `align_cuts` and the moves
+-- ---- the guards of `turn_unless`, `align_cuts` and the moves
 
 module _ {A : Type 0} (f : A → A) (k : ℕ) (a : List A) where
   -- put on no branch
@@ -101,51 +101,26 @@ module _ {A : Type 0} (f : A → A) (k : ℕ) (a : List A) where
   unfolding turnedOnto turned
   turned-on = ap (closed f) (map-id (begun f k (dropLast a)))
 
-  -- a ring that is to begin where it does, or of fewer than `few` points, stays
   module _ (few : ℕ) where
-    abbrev unless : List A
-    unless = cond (eqb k 0 || ltb (length a) few) a (turned f k a)
-
-    stays-at : k ≡ 0 → a ≡ unless
+    pub stays-at : k ≡ 0 → a ≡ turnedUnless few f k a
+    unfolding turnedUnless
     stays-at e = sym (rw e)
 
-    stays-few : length a < few → a ≡ unless
+    pub stays-few : length a < few → a ≡ turnedUnless few f k a
+    unfolding turnedUnless
     stays-few h = sym (rw (lt-ltb (length a) few h) (either (eqb k 0)))
       where
         either : (t : Bool) → cond (t || true) a (turned f k a) ≡ a
         either true = refl
         either false = refl
 
-    turned-past : (a′ : List A) → (k ≡ 0 → ⊥) → few ≤ length a → a′ ≡ turnedOnto f unchanged k a → a′ ≡ unless
-    turned-past a′ n h e = e ∙ turned-on ∙ sym (rw (ne-eqb k 0 n, le-ltb (length a) few h))
-
-  pub begin-none : k ≡ 0 → a ≡ beginRingAt f k a
-  unfolding beginRingAt
-  begin-none = stays-at 4
-
-  pub begin-few : length a < 4 → a ≡ beginRingAt f k a
-  unfolding beginRingAt
-  begin-few = stays-few 4
-
-  pub begin-turned : (a′ : List A) → (k ≡ 0 → ⊥) → 4 ≤ length a → a′ ≡ turnedOnto f unchanged k a → a′ ≡ beginRingAt f k a
-  unfolding beginRingAt
-  begin-turned = turned-past 4
-
-  pub recut-none : k ≡ 0 → a ≡ recutAt f k a
-  unfolding recutAt
-  recut-none = stays-at 2
-
-  pub recut-few : length a < 2 → a ≡ recutAt f k a
-  unfolding recutAt
-  recut-few = stays-few 2
-
-  pub recut-turned : (a′ : List A) → (k ≡ 0 → ⊥) → 2 ≤ length a → a′ ≡ turnedOnto f unchanged k a → a′ ≡ recutAt f k a
-  unfolding recutAt
-  recut-turned = turned-past 2
+    pub turned-else : (a′ : List A) → (k ≡ 0 → ⊥) → few ≤ length a → a′ ≡ turnedOnto f unchanged k a → a′ ≡ turnedUnless few f k a
+    unfolding turnedUnless
+    turned-else a′ n h e = e ∙ turned-on ∙ sym (rw (ne-eqb k 0 n, le-ltb (length a) few h))
 
   -- past its first open point a ring has two points and more
   pub recut-open : k ≤ length a - 2 → cond (eqb k 0) a (turned f k a) ≡ recutAt f k a
-  unfolding recutAt
+  unfolding turnedUnless
   recut-open h = either (eqb k 0) refl
     where
       either : (t : Bool) → eqb k 0 ≡ t → cond t a (turned f k a) ≡ cond (t || ltb (length a) 2) a (turned f k a)

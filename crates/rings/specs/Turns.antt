@@ -13,14 +13,17 @@ module _ {A : Type 0} where
   unfoldable pub unlessZero : Float → (A → A) → List A → List A
   unlessZero step f xs = cond (ne step plusZero) (map f xs) xs
 
-  -- `begin_ring_at`: begun at point k, what comes round done `again`; a ring that is to begin where it does, or of fewer than three open points, stays
-  unfoldable pub beginRingAt : (A → A) → ℕ → List A → List A
-  beginRingAt again k xs = cond (eqb k 0 || ltb (length xs) 4) xs (turned again k xs)
+  -- a ring turned to begin at point k, what comes round done `again`. One that is to begin where it does stays, and so does one of fewer than `few` points.
+  unfoldable pub turnedUnless : ℕ → (A → A) → ℕ → List A → List A
+  turnedUnless few again k xs = cond (eqb k 0 || ltb (length xs) few) xs (turned again k xs)
 
-  -- `reseam` (02, N4): its repeated last point set aside, the open points begun at point k, what comes round done `again`, closed with the new first point. A ring
-  -- that is to begin where it does stays, and so does a list of fewer than two points, which is no ring.
-  unfoldable pub recutAt : (A → A) → ℕ → List A → List A
-  recutAt again k xs = cond (eqb k 0 || ltb (length xs) 2) xs (turned again k xs)
+  -- `begin_ring_at`: a ring of fewer than three open points stays
+  abbrev pub beginRingAt : (A → A) → ℕ → List A → List A
+  beginRingAt = turnedUnless 4
+
+  -- `reseam` (02, N4): no ring stays for its few points; a list of fewer than two is none
+  abbrev pub recutAt : (A → A) → ℕ → List A → List A
+  recutAt = turnedUnless 2
 
   -- its repeated last point dropped, begun at point k, put on a branch, closed anew
   unfoldable pub turnedOnto : (A → A) → (A → A) → ℕ → List A → List A
