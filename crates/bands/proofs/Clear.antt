@@ -2,7 +2,7 @@
 use mathlib.Core.Path.{_≡_, refl}
 use mathlib.Core.Bool.{Bool, true, false, cond, true≢false}
 use lib.Ieee.{Float}
-use Rattle.bands.specs.Corners.{Corners}
+use Rattle.tables.specs.Corners.{Corners}
 use Rattle.bands.specs.Rings.{Face, onStrip, acrossSeam, cutAnew, hasStrip, hasGap, reseam}
 
 module _ {A : Type 0} (period : Float) (face : Face A) (clear : acrossSeam period face ≡ false) where

@@ -20,7 +20,7 @@ use Rattle.loops.proofs.RingLaw.{net-turned, ends-reverse}
 use Rattle.loops.proofs.Turns.{turned-twice}
 use Rattle.loops.proofs.RepeatsLaw.{net-dropRepeats}
 use Rattle.loops.proofs.Projections.{map-dropRepeats}
-use Rattle.bands.specs.Corners.{Corner, Corners, us, positions, moveU, moveV}
+use Rattle.tables.specs.Corners.{Corner, Corners, us, positions, moveU, moveV}
 use Rattle.rings.specs.Choices.{firstOf, firstOpenPast, nearest}
 use Rattle.rings.specs.Turns.{turnedUnless, beginRingAt, recutAt, turnedOnto, alignAt}
 use Rattle.rings.specs.Starts.{start}

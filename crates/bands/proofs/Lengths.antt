@@ -11,7 +11,7 @@ use Rattle.rings.specs.Choices.{firstOf, firstOpenPast, nearest}
 use Rattle.rings.specs.Turns.{beginRingAt}
 use Rattle.rings.specs.Starts.{start}
 use Rattle.rings.proofs.Lengths.{length-if, length-beginRingAt, length-recutAt, length-alignAt, length-unlessZero}
-use Rattle.bands.specs.Corners.{Corners, us, moveU}
+use Rattle.tables.specs.Corners.{Corners, us, moveU}
 use Rattle.bands.specs.Given.{Loop, Given}
 use Rattle.bands.specs.Rings.{Face, rising, raised, lessU, shifted, laid, recut, onStrip, cutAnew, hasStrip, acrossSeam, hasGap, reseam, alignCuts, slideToCut, trial, started}
 use Rattle.bands.proofs.Recut.{recut-is}

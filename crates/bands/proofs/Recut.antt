@@ -8,7 +8,7 @@ use Rattle.rings.specs.Choices.{firstOpenPast}
 use Rattle.rings.specs.Turns.{recutAt}
 use Rattle.rings.proofs.Lengths.{past-open}
 use Rattle.rings.proofs.Turning.{recut-open}
-use Rattle.bands.specs.Corners.{Corner, Corners, us}
+use Rattle.tables.specs.Corners.{Corner, Corners, us}
 use Rattle.bands.specs.Rings.{raised, recut}
 
 module _ {A : Type 0} (cut : Float) (r : Corners A) where

@@ -14,7 +14,7 @@ use Rattle.surfaces.proofs.knots.Rungs.{inner-kept}
 use Rattle.loops.specs.Repeats.{dropRepeats}
 use Rattle.bands.specs.Band.{joined, lowerFirst, lowerRing, upperRing, stripOf, outer}
 use Rattle.bands.specs.Columns.{stepsOn, heightsOn, heightsKept, settingOf, settingWith}
-use Rattle.bands.specs.Corners.{Corner, Corners}
+use Rattle.tables.specs.Corners.{Corner, Corners}
 use Rattle.bands.specs.Given.{Given}
 use Rattle.bands.specs.Strip.{ladder, heights, wall, strip}
 

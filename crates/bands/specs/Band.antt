@@ -5,7 +5,7 @@ use lib.Ieee.{Float, lt}
 use Rattle.numbers.specs.Rounded.{_⊕_}
 use Rattle.loops.specs.Repeats.{dropRepeats}
 use Rattle.loops.specs.Mean.{meanOf}
-use Rattle.bands.specs.Corners.{Corner, Corners, vs, moveV}
+use Rattle.tables.specs.Corners.{Corner, Corners, vs, moveV}
 use Rattle.bands.specs.Given.{Loop, Given}
 use Rattle.bands.specs.Rings.{Face, laid, reseam, started}
 use Rattle.surfaces.specs.declared.surface.Period.{Period}

@@ -13,7 +13,7 @@ use Rattle.surfaces.specs.Domains.{vPeriod}
 use Rattle.surfaces.specs.Points.{pointOf}
 use Rattle.surfaces.specs.Rungs.{keptDivisions, rungs}
 use Rattle.surfaces.specs.Steps.{vStepsOf}
-use Rattle.bands.specs.Corners.{Corner, Corners, us, vs}
+use Rattle.tables.specs.Corners.{Corner, Corners, us, vs}
 use Rattle.bands.specs.Strip.{Setting, ladder, heights}
 
 abbrev pub xs : Corners Vec3 → List Float

@@ -9,7 +9,7 @@ use lib.ListN.{length}
 use Rattle.loops.specs.Steps.{net}
 use Rattle.loops.specs.Repeats.{dropRepeats}
 use Rattle.loops.specs.Rings.{turned, unchanged, endsMeet}
-use Rattle.bands.specs.Corners.{Corner, Corners, positions}
+use Rattle.tables.specs.Corners.{Corner, Corners, positions}
 use Rattle.bands.specs.Given.{Loop, Given}
 use Rattle.bands.specs.Strip.{Setting, heights}
 use Rattle.bands.specs.Band.{lower, upper, lowerRing, upperRing, stripOf}

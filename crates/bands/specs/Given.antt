@@ -4,7 +4,7 @@ use mathlib.Core.Bool.{Bool, true, false, cond, not}
 use mathlib.Core.List.{List, [], _∷_, map, reverse}
 use lib.IntN.{ℤ, pos, negsuc}
 use lib.ListN.{getD}
-use Rattle.bands.specs.Corners.{Corners}
+use Rattle.tables.specs.Corners.{Corners}
 
 -- a loop of the face record, and its wrap
 pub record Measured (A : Type 0) : Type 0 where

@@ -1,4 +1,3 @@
-pub mod Corners
 pub mod Given
 pub mod Rings
 pub mod Strip

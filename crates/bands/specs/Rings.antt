@@ -9,9 +9,10 @@ use lib.ListN.{getD}
 use Rattle.numbers.specs.Rounded.{_⊕_, _⊖_}
 use Rattle.loops.specs.Branch.{branchShift}
 use Rattle.loops.specs.Rings.{turned}
-use Rattle.bands.specs.Corners.{Corner, Corners, us, moveU}
+use Rattle.tables.specs.Corners.{Corner, Corners, us, moveU}
 use Rattle.rings.specs.Choices.{leastU, greatestU, firstOf, stripShift, straddles, firstOpenPast, nearest}
-use Rattle.rings.specs.Turns.{unlessZero, beginRingAt, alignAt}
+use Rattle.tables.specs.Moves.{unlessZero}
+use Rattle.rings.specs.Turns.{beginRingAt, alignAt}
 use Rattle.rings.specs.Starts.{start}
 use Rattle.bands.specs.Given.{Loop, Given}
 use Rattle.seam.specs.declared.gap.Gap.{Gap}

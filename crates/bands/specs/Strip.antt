@@ -7,7 +7,7 @@ use Rattle.numbers.specs.Order.{minOf, maxOf}
 use Rattle.numbers.specs.Rounded.{_⊕_}
 use Rattle.surfaces.specs.declared.surface.Period.{Period}
 use Rattle.surfaces.specs.Rungs.{inner}
-use Rattle.bands.specs.Corners.{Corner, Corners}
+use Rattle.tables.specs.Corners.{Corner, Corners}
 
 -- What a band takes from its surface and its face: how u and v come round, whether the face's sense is the surface's, when two positions are one, the
 -- point at u and v, the ladder of n steps from one v up to another, and how many steps lie between two v.

@@ -14,9 +14,10 @@ use Rattle.numbers.specs.Round.{roundAway, floorOf}
 use Rattle.loops.specs.Mean.{meanOf, sumOf}
 use Rattle.loops.specs.Span.{leastOf, greatestOf}
 use Rattle.loops.specs.Wrap.{netWrap, turnsCounted}
-use Rattle.bands.specs.Corners.{Corner, Corners, us, positions}
+use Rattle.tables.specs.Corners.{Corner, Corners, us, positions}
 use Rattle.rings.specs.Choices.{leastU, greatestU, firstPast, firstOpenPast, stripShift, straddles, nearest, firstLeast, firstFrom, serve, beginsBackward, standsAtTheCut}
-use Rattle.rings.specs.Turns.{unlessZero, turnedUnless, turnedOnto, alignAt}
+use Rattle.tables.specs.Moves.{unlessZero}
+use Rattle.rings.specs.Turns.{turnedUnless, turnedOnto, alignAt}
 use Rattle.rings.specs.Starts.{alignedU, slidU, firstFor, laterFor, serves, firstServing, start}
 use Rattle.bands.specs.Given.{Measured, Given, only, givenOf}
 use Rattle.bands.specs.Rings.{Face, rising, shifted, laid, onto, onStrip, anyStraddles, acrossSeam, gapOf, recut, cutAnew, hasStrip, hasGap, reseam, alignCuts, slideToCut, trial, started}

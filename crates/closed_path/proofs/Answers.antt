@@ -11,7 +11,7 @@ use Rattle.numbers.specs.declared.math.Vec3.{Vec3}
 use Rattle.regions.specs.declared.rephase.Branch.{Branch}
 use Rattle.regions.specs.Outer.{holesOf}
 use Rattle.regions.specs.Rephase.{Loop}
-use Rattle.bands.specs.Corners.{Corner, Corners, us, vs, positions}
+use Rattle.tables.specs.Corners.{Corner, Corners, us, vs, positions}
 use Rattle.bands.specs.Columns.{xs, ys, zs}
 use Rattle.records.specs.Result.{cornersOf, countOf, areaOf}
 use Rattle.judgement.specs.Face.{cornersFrom}

@@ -13,7 +13,7 @@ use Rattle.lists.specs.Placed.{placed}
 use Rattle.lists.proofs.Placed.{front-placed}
 use Rattle.regions.specs.declared.rephase.Branch.{Branch}
 use Rattle.regions.specs.Rephase.{Loop, Arrays, arrays, rephaseHoles}
-use Rattle.bands.specs.Corners.{Corner, Corners}
+use Rattle.tables.specs.Corners.{Corner, Corners}
 use Rattle.bands.specs.Columns.{xs, ys, zs}
 use Rattle.judgement.specs.Paths.{signedArea, branchOf, outerNumber, closedLoops}
 use Rattle.faces.specs.Held.{concat, HoldsLoops, HoldsResult}

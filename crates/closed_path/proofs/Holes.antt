@@ -17,7 +17,7 @@ use Rattle.loops.specs.Part.{partOf, raised}
 use Rattle.loops.specs.Span.{middleOf}
 use Rattle.regions.specs.declared.rephase.Branch.{Branch}
 use Rattle.regions.specs.Rephase.{Loop, Arrays, arrays, loopAt, withPart, shiftOf, moved, rephased, branchAt, rephaseLoop, rephaseLoops, rephaseHoles}
-use Rattle.bands.specs.Corners.{Corner, Corners, us, vs}
+use Rattle.tables.specs.Corners.{Corner, Corners, us, vs}
 use Rattle.judgement.specs.Paths.{signedArea, branchOf}
 use Rattle.faces.specs.Held.{concat}
 use Rattle.closed_path.specs.Table.{startsOf}

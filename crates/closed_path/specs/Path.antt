@@ -6,7 +6,7 @@ use lib.ListN.{length}
 use lib.Ieee.{Float}
 use Rattle.numbers.specs.declared.math.Vec3.{Vec3}
 use Rattle.regions.specs.Rephase.{Arrays, arrays, rephaseHoles}
-use Rattle.bands.specs.Corners.{Corners, us, vs}
+use Rattle.tables.specs.Corners.{Corners, us, vs}
 use Rattle.judgement.specs.Paths.{signedArea, outerNumber}
 use Rattle.faces.specs.Held.{concat}
 use Rattle.closed_path.specs.Table.{startsOf}

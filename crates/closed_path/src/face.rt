@@ -6,7 +6,7 @@ ghost use lib.Dec.{ltb};
 ghost use lib.ListN.{length, getD, take};
 ghost use Rattle.numbers.specs.declared.math.Vec3.{Vec3};
 ghost use Rattle.lists.specs.Placed.{placed};
-ghost use Rattle.bands.specs.Corners.{Corners};
+ghost use Rattle.tables.specs.Corners.{Corners};
 ghost use Rattle.judgement.specs.Paths.{signedArea, outerNumber, closedLoops};
 ghost use Rattle.faces.specs.Held.{HoldsLoops, HoldsResult, concat};
 ghost use Rattle.closed_path.specs.First.{partFirst};

@@ -13,7 +13,7 @@ use Rattle.lists.proofs.Places.{gathered-places}
 use Rattle.loops.specs.Repeats.{dropRepeats}
 use Rattle.repeats.specs.Corners.{positionAt, kept, movedUp}
 use Rattle.repeats.proofs.AtPlaces.{corners-at-places, kept-few, moved-front}
-use Rattle.bands.specs.Corners.{Corner, Corners, us, vs}
+use Rattle.tables.specs.Corners.{Corner, Corners, us, vs}
 use Rattle.bands.specs.Columns.{Columns, xs, ys, zs}
 
 -- ---- corners with the same columns are the same

@@ -16,7 +16,7 @@ use Rattle.loops.specs.Area.{areaOf}
 use Rattle.loops.specs.Part.{partOf}
 use Rattle.rings.specs.Choices.{firstOf}
 use Rattle.strip.specs.Layout.{countOf, capped}
-use Rattle.bands.specs.Corners.{Corner, Corners}
+use Rattle.tables.specs.Corners.{Corner, Corners}
 use Rattle.bands.specs.Columns.{Columns, heightsOn, settingOf}
 use Rattle.bands.specs.Strip.{Setting, strip}
 use Rattle.closing.specs.declared.Closing.{Closing}

@@ -18,7 +18,7 @@ use Rattle.rings.proofs.Carried.{map-unchanged}
 use Rattle.strip.specs.Layout.{stripOf, countOf}
 use Rattle.strip.specs.Walls.{xsAt, ysAt, zsAt}
 use Rattle.strip.proofs.layout.Laws.{length-strip}
-use Rattle.bands.specs.Corners.{Corner, Corners, us, vs}
+use Rattle.tables.specs.Corners.{Corner, Corners, us, vs}
 use Rattle.bands.specs.Columns.{Columns, xs, ys, zs, heightsOn, settingOf}
 use Rattle.bands.specs.Strip as bands
 use Rattle.closing.specs.Closing.{Rings}

@@ -10,7 +10,7 @@ use Rattle.numbers.specs.declared.math.Vec3.{Vec3}
 use Rattle.loops.specs.Area.{areaOf}
 use Rattle.loops.specs.Repeats.{dropRepeats}
 use Rattle.strip.specs.Layout.{capped}
-use Rattle.bands.specs.Corners.{Corner, Corners, us, vs}
+use Rattle.tables.specs.Corners.{Corner, Corners, us, vs}
 use Rattle.bands.specs.Columns.{Columns}
 use Rattle.bands.specs.Strip.{Setting, strip}
 use Rattle.closing.specs.declared.Closing.{Closing}

@@ -7,7 +7,7 @@ ghost use lib.ListN.{length};
 ghost use Rattle.numbers.specs.declared.math.Vec3.{Vec3};
 ghost use Rattle.lists.specs.Placed.{placed};
 ghost use Rattle.loops.specs.Part.{partOf};
-ghost use Rattle.bands.specs.Corners.{Corners};
+ghost use Rattle.tables.specs.Corners.{Corners};
 ghost use Rattle.bands.specs.Columns.{heightsOn, settingOf};
 ghost use Rattle.closing.specs.Closing.{Rings, Closes, roomIn};
 ghost use Rattle.closing.specs.Steps.{Raised, columnOf, columnOfU, Dropped};

@@ -5,7 +5,7 @@ use mathlib.Core.List.{List, [], _∷_, _++_, map}
 use lib.Ieee.{Float}
 use lib.ListN.{length}
 use Rattle.numbers.specs.declared.math.Vec3.{Vec3}
-use Rattle.bands.specs.Corners.{Corner, Corners}
+use Rattle.tables.specs.Corners.{Corner, Corners}
 use Rattle.bands.specs.Columns.{Columns}
 use Rattle.records.specs.Result.{Loop, cornersOf, countOf, areaOf}
 

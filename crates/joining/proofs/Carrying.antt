@@ -15,7 +15,7 @@ use Rattle.seam.specs.declared.reseam.Reseamed.{Reseamed}
 use Rattle.seam.specs.declared.reseam.Reseamed.the-variants.{Kept, Recut}
 use Rattle.seam.specs.Reseam.{Us, reseamU, startsU, startsAt, cutU, onStripU, seamU, gapOfU}
 use Rattle.seam.specs.declared.reseam.Cut.the-variants.{Keep, At}
-use Rattle.bands.specs.Corners.{Corner, Corners, us, moveU}
+use Rattle.tables.specs.Corners.{Corner, Corners, us, moveU}
 use Rattle.bands.specs.Rings.{Face, raised, onStrip, acrossSeam, gapOf, recut, cutAnew, hasStrip, hasGap, reseam, alignCuts, slideToCut, trial, started}
 use Rattle.bands.proofs.Recut.{recut-is}
 use Rattle.joining.specs.Joined.{firstCut, laterCut, carriedFirst, carriedLater, startOf, nearestOf, startedU}

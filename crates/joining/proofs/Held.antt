@@ -24,7 +24,7 @@ use Rattle.seam.specs.Reseam.{Us, recutU, seamU, ontoAll, onStripU, acrossSeamU
 use Rattle.seam.specs.declared.reseam.Cut.{Cut}
 use Rattle.seam.specs.declared.reseam.Cut.the-variants.{Keep, At}
 use Rattle.seam.proofs.EachHole.{length-onto}
-use Rattle.bands.specs.Corners.{Corner, Corners, us, moveU}
+use Rattle.tables.specs.Corners.{Corner, Corners, us, moveU}
 use Rattle.bands.specs.Given.{Loop}
 use Rattle.bands.specs.Rings.{Face, rising, shifted, lessU, raised, seam, onto, onStrip, anyStraddles, acrossSeam, gapOf, recut, cutAnew, hasStrip, hasGap, reseam, alignCuts, slideToCut, trial, started}
 use Rattle.bands.proofs.Recut.{recut-is}

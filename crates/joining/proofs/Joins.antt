@@ -12,7 +12,7 @@ use Rattle.rings.specs.Choices.{leastU, firstOf}
 use Rattle.rings.proofs.Lengths.{length-if}
 use Rattle.seam.specs.Reseam as Seam
 use Rattle.seam.specs.Reseam.{Us, reseamU, startsU}
-use Rattle.bands.specs.Corners.{Corner, Corners, us, moveU}
+use Rattle.tables.specs.Corners.{Corner, Corners, us, moveU}
 use Rattle.bands.specs.Given.{Loop, Given}
 use Rattle.bands.specs.Rings.{Face, rising, shifted, lessU, laid, reseam, started}
 use Rattle.bands.specs.Columns.{Columns}

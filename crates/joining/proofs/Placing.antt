@@ -8,8 +8,8 @@ use Rattle.numbers.specs.Rounded.{_⊖_}
 use Rattle.loops.specs.Branch.{branchShift, LandsNear}
 use Rattle.loops.proofs.Landing.{moved-answer}
 use Rattle.rings.specs.Choices.{firstOf, nearest}
-use Rattle.rings.specs.Moves.{movedBy}
-use Rattle.rings.specs.declared.moves.Move.the-variants.{Stay, Down}
+use Rattle.tables.specs.Moves.{movedBy}
+use Rattle.tables.specs.declared.moves.Move.the-variants.{Stay, Down}
 use Rattle.rings.specs.Turns.{beginRingAt, recutAt, alignAt}
 use Rattle.rings.specs.Starts.{alignedU, slidU, firstFor, laterFor, start}
 use Rattle.starts.specs.declared.Search.{Search}

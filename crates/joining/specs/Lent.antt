@@ -8,7 +8,7 @@ use lib.Ieee.{Float}
 use Rattle.lists.specs.Pieces.{pieces}
 use Rattle.numbers.specs.declared.math.Vec3.{Vec3}
 use Rattle.seam.specs.Reseam.{hasRoom}
-use Rattle.bands.specs.Corners.{us}
+use Rattle.tables.specs.Corners.{us}
 use Rattle.bands.specs.Given.{Given}
 use Rattle.bands.specs.Rings.{Face, laid, reseam, started}
 use Rattle.bands.specs.Columns.{Columns}

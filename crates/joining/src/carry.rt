@@ -1,11 +1,11 @@
 // What a corner carries besides its u, its v or a coordinate, brought where its u went.
 ghost use mathlib.Core.Path.{_≡_};
 ghost use Rattle.joining.specs.Joined.{risen, carriedFirst, carriedLater};
-use rings::moves::Move;
 use rings::moves::align_at;
 use rings::moves::begin_ring_at;
 use rings::moves::recut_at;
 use rings::moves::reverse;
+use tables::moves::Move;
 
 // A ring of negative travel is read backward.
 pub fn rise(s: &mut [f64], falls: bool)

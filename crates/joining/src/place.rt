@@ -11,7 +11,6 @@ ghost use Rattle.joining.specs.declared.place.Placed.the-variants.{At, S
 use loops::branch::branch_shift;
 use rings::choices::first_of;
 use rings::choices::nearest;
-use rings::moves::Move;
 use rings::moves::move_all;
 use seam::reseam::Reseamed;
 use seam::reseam::reseam_u;
@@ -19,6 +18,7 @@ use starts::Search;
 use starts::first_for;
 use starts::later_for;
 use starts::search_start;
+use tables::moves::Move;
 
 // The points at which the rings were cut anew, 0 where they were not, and at which they then begin:
 // what a corner carries besides its u is still to be turned there.

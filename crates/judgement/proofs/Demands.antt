@@ -17,7 +17,7 @@ use Rattle.loops.specs.Rings.{endsMeet}
 use Rattle.loops.specs.Steps.{PartialEquivalence}
 use Rattle.loops.proofs.SamePosition.{same-position}
 use Rattle.bands.specs.Band.{outer, holes}
-use Rattle.bands.specs.Corners.{Corners, positions}
+use Rattle.tables.specs.Corners.{Corners, positions}
 use Rattle.bands.specs.Given.{Measured, only, givenOf}
 use Rattle.bands.proofs.Demand.{holes-as-many, demand3}
 use Rattle.bands.specs.Demand.{Whole, Demand3}

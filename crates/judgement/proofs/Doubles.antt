@@ -19,7 +19,7 @@ use Rattle.surfaces.specs.Rungs.{division, rungs, inner}
 use Rattle.surfaces.proofs.knots.Rungs.{inner-each, rungs-each}
 use Rattle.loops.specs.Area.{areaOf}
 use Rattle.bands.specs.Band.{lift, lowerFirst, lowerRing, upperRing, stripOf, outer, holes}
-use Rattle.bands.specs.Corners.{Corner, Corners, moveU}
+use Rattle.tables.specs.Corners.{Corner, Corners, moveU}
 use Rattle.bands.specs.Given.{Given}
 use Rattle.bands.specs.Strip.{Setting, ladder, heights, wall, strip}
 use Rattle.records.specs.Result.{All, and, Fits, FitsXyz}

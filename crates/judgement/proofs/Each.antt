@@ -13,7 +13,8 @@ use Rattle.numbers.specs.Constants.{plusZero}
 use Rattle.lists.proofs.Elements.{length-dropLast, dropLast-take}
 use Rattle.loops.specs.Repeats.{keep, keptFrom, dropSuccessive, cutBack, dropTrailing, dropMerging, dropRepeats}
 use Rattle.loops.specs.Rings.{begun, closed, turned}
-use Rattle.rings.specs.Turns.{unlessZero, turnedUnless, beginRingAt, recutAt, turnedOnto, alignAt}
+use Rattle.tables.specs.Moves.{unlessZero}
+use Rattle.rings.specs.Turns.{turnedUnless, beginRingAt, recutAt, turnedOnto, alignAt}
 use Rattle.bands.specs.Given.{only}
 use Rattle.records.specs.Result.{All, none, and}
 

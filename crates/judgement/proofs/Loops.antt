@@ -14,7 +14,7 @@ use Rattle.lists.specs.Pieces.{pieces}
 use Rattle.lists.proofs.Maps.{map-take, map-drop}
 use Rattle.lists.proofs.Pieces.{length-pieces}
 use Rattle.loops.specs.Wrap.{netWrap}
-use Rattle.bands.specs.Corners.{Corner, Corners, positions}
+use Rattle.tables.specs.Corners.{Corner, Corners, positions}
 use Rattle.bands.specs.Given.{Measured, wraps, only, givenOf}
 use Rattle.records.specs.Bytes.{uvAt, xyzAt, sum}
 use Rattle.records.specs.Face.{loops, counts, points, parameters, loopPositions}

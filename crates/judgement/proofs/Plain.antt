@@ -7,7 +7,7 @@ use mathlib.Core.List.{List}
 use borrow.Author.Tests.{eqb-true, eqb-false, eq-eqb, ne-eqb, leb-true, leb-false, le-leb, lt-leb}
 use Rattle.numbers.specs.Position.{same}
 use Rattle.loops.specs.Rings.{endsMeet}
-use Rattle.bands.specs.Corners.{positions}
+use Rattle.tables.specs.Corners.{positions}
 use Rattle.records.specs.Bytes.{_<?_, _≤?_, _=?_}
 use Rattle.records.specs.Face.{kind, loops}
 use Rattle.records.specs.Limits.{cone, maxStrip}

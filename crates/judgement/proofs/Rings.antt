@@ -10,7 +10,7 @@ use Rattle.loops.specs.Branch.{branchShift}
 use Rattle.rings.specs.Choices.{firstOf, firstOpenPast, stripShift, nearest}
 use Rattle.rings.specs.Turns.{beginRingAt}
 use Rattle.bands.specs.Band.{pick, joined, lowerFirst, lowerRing, holes}
-use Rattle.bands.specs.Corners.{Corner, Corners, us, moveU}
+use Rattle.tables.specs.Corners.{Corner, Corners, us, moveU}
 use Rattle.bands.specs.Given.{Loop, Given}
 use Rattle.bands.specs.Rings.{Face, rising, raised, lessU, shifted, laid, seam, onto, onStrip, acrossSeam, gapOf, recut, cutAnew, hasStrip, hasGap, reseam, alignCuts, slideToCut, trial, started}
 use Rattle.bands.specs.Strip.{Setting}

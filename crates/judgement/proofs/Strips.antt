@@ -24,7 +24,7 @@ use Rattle.surfaces.specs.Steps.{vStepsOf}
 use Rattle.surfaces.proofs.knots.Rungs.{inner-few}
 use Rattle.surfaces.proofs.steps.Count.{v-steps-few}
 use Rattle.bands.specs.Band.{lift, pick, joined, lowerFirst, lowerRing, upperRing, stripOf}
-use Rattle.bands.specs.Corners.{Corner, Corners}
+use Rattle.tables.specs.Corners.{Corner, Corners}
 use Rattle.bands.specs.Given.{only, givenOf}
 use Rattle.bands.specs.Strip.{Setting, ladder, heights, wall, strip}
 use Rattle.bands.proofs.Lengths.{length-first, length-later}

@@ -29,7 +29,7 @@ use Rattle.regions.specs.declared.rephase.Branch.{Branch}
 use Rattle.whole.specs.Boundary.{sides, sidesOf, uRungs, vRungs, wholeCorners, positionOf, wholeArea}
 use Rattle.whole.proofs.boundary.Meaning.{few-corners}
 use Rattle.bands.specs.Band.{stripOf, outer, holes}
-use Rattle.bands.specs.Corners.{Corner, Corners, us, vs, positions}
+use Rattle.tables.specs.Corners.{Corner, Corners, us, vs, positions}
 use Rattle.bands.proofs.Demand.{holes-counts, holes-as-many}
 use Rattle.records.specs.Bytes.{sum, _=?_}
 use Rattle.records.specs.Face.{loops, points}

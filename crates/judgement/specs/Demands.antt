@@ -12,7 +12,7 @@ use Rattle.numbers.specs.declared.math.Vec3.{Vec3}
 use Rattle.surfaces.specs.Domains.{domainOf}
 use Rattle.loops.specs.Steps.{net}
 use Rattle.whole.specs.Boundary.{isWhole, usOf, vsOf, FourCorners}
-use Rattle.bands.specs.Corners.{positions}
+use Rattle.tables.specs.Corners.{positions}
 use Rattle.bands.specs.Demand.{Demand3}
 use Rattle.records.specs.Bytes.{byteAt}
 use Rattle.records.specs.Face.{loops, loopPositions}

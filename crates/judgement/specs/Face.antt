@@ -17,7 +17,7 @@ use Rattle.surfaces.specs.declared.surface.Surface.the-variants.{Plane, Cylinde
 use Rattle.surfaces.specs.Domains.{uPeriod, vPeriod}
 use Rattle.lists.specs.Pieces.{pieces}
 use Rattle.loops.specs.Wrap.{netWrap}
-use Rattle.bands.specs.Corners.{Corners, us}
+use Rattle.tables.specs.Corners.{Corners, us}
 use Rattle.bands.specs.Columns.{settingOf}
 use Rattle.bands.specs.Given.{Measured, Given, wraps, only, givenOf}
 use Rattle.bands.specs.Strip.{Setting}

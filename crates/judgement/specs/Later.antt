@@ -8,7 +8,7 @@ use Rattle.numbers.specs.Position.{same}
 use Rattle.numbers.specs.declared.math.Vec3.{Vec3}
 use Rattle.loops.specs.Rings.{endsMeet}
 use Rattle.bands.specs.Band.{stripOf}
-use Rattle.bands.specs.Corners.{positions}
+use Rattle.tables.specs.Corners.{positions}
 use Rattle.bands.specs.Given.{Measured}
 use Rattle.records.specs.Bytes.{_<?_, _≤?_, _=?_}
 use Rattle.records.specs.Face.{kind, loops}

@@ -16,7 +16,7 @@ use Rattle.regions.specs.declared.boxes.Bounds.{Bounds}
 use Rattle.regions.specs.declared.rephase.Branch.{Branch}
 use Rattle.whole.specs.Boundary.{wholeCorners, positionOf, wholeArea}
 use Rattle.bands.specs.Band.{outer, holes}
-use Rattle.bands.specs.Corners.{Corner, Corners, us, vs, positions}
+use Rattle.tables.specs.Corners.{Corner, Corners, us, vs, positions}
 use Rattle.records.specs.Bytes.{_=?_}
 use Rattle.records.specs.Face.{loops}
 use Rattle.records.specs.Result.{Result, Loop, resultOf}

@@ -34,7 +34,8 @@ use Rattle.regions.specs.Outer.{outerOf, slackOf, encloses, every, passing, enc
 use Rattle.regions.specs.Rephase.{shiftOf, moved, rephased}
 use Rattle.rings.specs.Choices.{leastU, greatestU, stripShift, straddles, nearest, firstLeast, firstFrom as startFrom, serve, beginsBackward, standsAtTheCut}
 use Rattle.rings.specs.Starts.{alignedU, slidU, firstFor, laterFor, serves, firstServing, start as startOf}
-use Rattle.rings.specs.Turns.{unlessZero, turnedUnless, turnedOnto, alignAt}
+use Rattle.tables.specs.Moves.{unlessZero}
+use Rattle.rings.specs.Turns.{turnedUnless, turnedOnto, alignAt}
 use Rattle.whole.specs.Boundary.{uSteps, vSteps, uRungs, vRungs, sides, sidesOf, wholeCorners, wrapOf, positionOf}
 use Rattle.bands.specs.Band.{firstIsLower, lift, joined, lowerFirst, lowerRing, upperRing, stripOf, outer, holes}
 use Rattle.bands.specs.Given.{only, givenOf}

@@ -25,7 +25,7 @@ use Rattle.surfaces.specs.Rungs.{rungs, inner}
 use Rattle.surfaces.specs.Steps.{vStepsOf}
 use Rattle.surfaces.proofs.surface.Points.{point-in}
 use Rattle.bands.specs.Band.{lift, pick, joined, lowerFirst, lowerRing, upperRing, stripOf, outer, holes}
-use Rattle.bands.specs.Corners.{Corner, Corners}
+use Rattle.tables.specs.Corners.{Corner, Corners}
 use Rattle.bands.specs.Given.{wraps}
 use Rattle.bands.specs.Rings.{started, reseam, laid}
 use Rattle.bands.specs.Strip.{Setting, ladder, heights, wall, strip}

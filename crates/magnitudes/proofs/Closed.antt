@@ -18,7 +18,7 @@ use Rattle.regions.specs.Outer.{holesOf}
 use Rattle.regions.specs.Rephase.{shiftOf, moved, rephased}
 use Rattle.regions.specs.Rephase as Rephase
 use Rattle.regions.specs.declared.rephase.Branch.{Branch}
-use Rattle.bands.specs.Corners.{Corner, Corners, us, vs}
+use Rattle.tables.specs.Corners.{Corner, Corners, us, vs}
 use Rattle.records.specs.Result.{All, and}
 use Rattle.judgement.specs.Paths.{ResultLoop, signedArea, outerNumber, outerLoop, branchOf, rephasedHole, closedLoops}
 use Rattle.judgement.proofs.Doubles.{FitsCorner}

@@ -20,7 +20,7 @@ use Rattle.surfaces.specs.declared.surface.Surface.the-variants.{Plane, Cylinde
 use Rattle.surfaces.specs.Domains.{uPeriod, vPeriod}
 use Rattle.surfaces.proofs.surface.Points.{Sizes}
 use Rattle.lists.specs.Pieces.{pieces}
-use Rattle.bands.specs.Corners.{Corner, Corners, positions}
+use Rattle.tables.specs.Corners.{Corner, Corners, positions}
 use Rattle.records.specs.Accepted.{Accepted}
 use Rattle.records.specs.Bytes.{u16At, sum, _=?_}
 use Rattle.records.specs.Face.{headReals, kind, loops, counts, points, realOf, parameters}

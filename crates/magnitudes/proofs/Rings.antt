@@ -21,11 +21,12 @@ use Rattle.loops.specs.Branch.{branchShift}
 use Rattle.loops.specs.Rings.{begun, closed, turned}
 use Rattle.loops.specs.Span.{leastOf, greatestOf}
 use Rattle.rings.specs.Choices.{leastU, firstOf, firstOpenPast, firstLeast, stripShift, nearest, offset}
-use Rattle.rings.specs.Turns.{unlessZero, turnedUnless, beginRingAt, recutAt, turnedOnto, alignAt}
+use Rattle.tables.specs.Moves.{unlessZero}
+use Rattle.rings.specs.Turns.{turnedUnless, beginRingAt, recutAt, turnedOnto, alignAt}
 use Rattle.rings.proofs.Lengths.{length-beginRingAt, length-recutAt, length-alignAt}
 use Rattle.seam.specs.Gap.{Span, spanOf, insert, sorted, passed, gapAlong, widestGap}
 use Rattle.seam.specs.declared.gap.Gap.{Gap}
-use Rattle.bands.specs.Corners.{Corner, Corners, us, moveU}
+use Rattle.tables.specs.Corners.{Corner, Corners, us, moveU}
 use Rattle.bands.specs.Given.{Loop, Given}
 use Rattle.bands.specs.Rings.{Face, rising, lessU, raised, shifted, laid, seam, onto, onStrip, gapOf, recut, cutAnew, hasStrip, acrossSeam, hasGap, reseam, alignCuts, slideToCut, trial, started}
 use Rattle.bands.proofs.Recut.{at-open-point, recut-is}

@@ -18,7 +18,7 @@ use Rattle.loops.specs.Steps.{net}
 use Rattle.whole.specs.Boundary.{isWhole, wholeCorners, positionOf, wholePositions, usOf, vsOf, FourCorners}
 use Rattle.whole.proofs.boundary.Corners.{four-corners}
 use Rattle.whole.proofs.boundary.Counts.{whole-still}
-use Rattle.bands.specs.Corners.{Corner, positions}
+use Rattle.tables.specs.Corners.{Corner, positions}
 use Rattle.records.specs.Bytes.{byteAt, _≤?_, _=?_}
 use Rattle.records.specs.Call.{Outcome, refused, closed, code, lentAfter}
 use Rattle.records.specs.Face.{loops, kind}

@@ -20,7 +20,7 @@ use Rattle.surfaces.specs.Domains.{uPeriod, vPeriod}
 use Rattle.numbers.specs.Constants.{plusZero, TAU}
 use Rattle.loops.proofs.Trailing.{repeats-fewer}
 use Rattle.bands.specs.Band.{lowerRing, stripOf, outer}
-use Rattle.bands.specs.Corners.{Corner, Corners}
+use Rattle.tables.specs.Corners.{Corner, Corners}
 use Rattle.bands.specs.Given.{Measured, givenOf}
 use Rattle.records.specs.Accepted.{Accepted}
 use Rattle.records.specs.Bytes.{_=?_}

@@ -24,7 +24,7 @@ use Rattle.surfaces.specs.Rungs.{rungs}
 use Rattle.surfaces.proofs.surface.Points.{Sizes, point-in}
 use Rattle.whole.specs.Boundary.{clamped, uSteps, vSteps, uRungs, vRungs, sides, sidesOf, wholeCorners, wrapOf, positionOf, usOf, vsOf, wholeArea}
 use Rattle.whole.proofs.boundary.Meaning.{few-corners}
-use Rattle.bands.specs.Corners.{Corner}
+use Rattle.tables.specs.Corners.{Corner}
 use Rattle.records.specs.Result.{All, none}
 use Rattle.judgement.specs.Face.{frameIn, surfaceIn, optionsIn}
 use Rattle.judgement.specs.Paths.{wholeLoop}

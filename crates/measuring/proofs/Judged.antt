@@ -11,7 +11,7 @@ use Rattle.numbers.specs.declared.math.Vec3.{Vec3}
 use Rattle.lists.specs.Pieces.{pieces}
 use Rattle.loops.specs.Rings.{endsMeet}
 use Rattle.loops.specs.Steps.{lastOf}
-use Rattle.bands.specs.Corners.{Corner, Corners, positions}
+use Rattle.tables.specs.Corners.{Corner, Corners, positions}
 use Rattle.bands.specs.Columns.{Columns, xs, ys, zs}
 use Rattle.bands.specs.Given.{Measured, wraps, only}
 use Rattle.records.specs.Bytes.{_=?_, _<?_}

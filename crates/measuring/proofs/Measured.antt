@@ -16,7 +16,7 @@ use Rattle.lists.specs.Placed.{placed}
 use Rattle.lists.proofs.Pieces.{length-pieces}
 use Rattle.lists.proofs.Placed.{front-placed}
 use Rattle.loops.specs.Wrap.{netWrap}
-use Rattle.bands.specs.Corners.{Corner, Corners, us}
+use Rattle.tables.specs.Corners.{Corner, Corners, us}
 use Rattle.judgement.specs.Face.{surfaceIn, loopsIn, wrapOf, measuredIn}
 use Rattle.faces.specs.Held.{concat, HoldsLoops}
 use Rattle.measuring.specs.Wraps.{wrapAlong, wrapsIn}

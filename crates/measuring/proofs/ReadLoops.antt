@@ -11,7 +11,7 @@ use lib.Seq.{take-at, length-take-le}
 use Rattle.numbers.specs.declared.math.Vec2.{Vec2}
 use Rattle.numbers.specs.declared.math.Vec3.{Vec3}
 use Rattle.lists.specs.Pieces.{pieces}
-use Rattle.bands.specs.Corners.{Corner, Corners, us, vs, positions}
+use Rattle.tables.specs.Corners.{Corner, Corners, us, vs, positions}
 use Rattle.bands.specs.Columns.{Columns}
 use Rattle.records.specs.declared.read.Read.{Read}
 use Rattle.records.specs.declared.read.Read.the-variants.{Count}

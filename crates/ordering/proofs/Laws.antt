@@ -6,8 +6,8 @@ use lib.Ieee.{Float, lt}
 use Rattle.numbers.specs.Rounded.{_⊕_}
 use Rattle.surfaces.specs.declared.surface.Period.{Period}
 use Rattle.surfaces.specs.declared.surface.Period.the-variants.{Every, None}
-use Rattle.rings.specs.Moves.{movedBy}
-use Rattle.rings.specs.declared.moves.Move.the-variants.{Up}
+use Rattle.tables.specs.Moves.{movedBy}
+use Rattle.tables.specs.declared.moves.Move.the-variants.{Up}
 use Rattle.rings.proofs.Carried.{map-unchanged}
 use Rattle.bands.specs.Band.{firstIsLower}
 use Rattle.ordering.specs.Ordered.{crosses, liftedBy}

@@ -6,7 +6,7 @@ use Rattle.numbers.specs.Rounded.{_⊕_}
 use Rattle.numbers.specs.declared.math.Vec3.{Vec3}
 use Rattle.surfaces.specs.declared.surface.Period.{Period}
 use Rattle.surfaces.specs.declared.surface.Period.the-variants.{Every, None}
-use Rattle.bands.specs.Corners.{Corners, moveV}
+use Rattle.tables.specs.Corners.{Corners, moveV}
 use Rattle.bands.specs.Rings.{Face}
 use Rattle.bands.specs.Strip.{Setting}
 use Rattle.bands.specs.Band.{firstIsLower, lift, meanV, pick}

@@ -4,9 +4,9 @@ ghost use mathlib.Core.Bool.{cond, not};
 ghost use mathlib.Core.List.{map};
 ghost use Rattle.bands.specs.Band.{firstIsLower};
 ghost use Rattle.ordering.specs.Ordered.{crosses, liftedBy};
-use rings::moves::Move;
 use rings::moves::move_all;
 use surfaces::surface::Period;
+use tables::moves::Move;
 
 // Whether a ring goes with the face: u rising, or falling where the face's sense is not the surface's.
 pub fn goes_with(sense: bool, falls: bool) -> bool

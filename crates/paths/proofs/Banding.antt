@@ -10,7 +10,7 @@ use lib.Ieee.{Float}
 use lib.ListN.{length, take, length-map}
 use Rattle.numbers.specs.declared.math.Vec3.{Vec3}
 use Rattle.loops.proofs.Trailing.{repeats-fewer}
-use Rattle.bands.specs.Corners.{Corner}
+use Rattle.tables.specs.Corners.{Corner}
 use Rattle.bands.specs.Given.{Measured, only, givenOf}
 use Rattle.bands.specs.Strip.{Setting}
 use Rattle.bands.specs.Band.{stripOf, outer, holes}

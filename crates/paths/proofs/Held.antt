@@ -6,7 +6,7 @@ use lib.Ieee.{Float}
 use lib.ListN.{length, take, length-map, length-append}
 use lib.Seq.{length-take-le}
 use Rattle.numbers.specs.declared.math.Vec3.{Vec3}
-use Rattle.bands.specs.Corners.{Corner}
+use Rattle.tables.specs.Corners.{Corner}
 use Rattle.records.specs.Bytes.{sum}
 use Rattle.records.specs.Result.{Loop, cornersOf, countOf}
 use Rattle.judgement.specs.Paths.{ResultLoop}

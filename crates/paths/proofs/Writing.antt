@@ -8,7 +8,7 @@ use borrow.Author.Tests.{lt-ltb, le-leb}
 use lib.Ieee.{Float}
 use lib.ListN.{length, take, length-map}
 use Rattle.numbers.specs.declared.math.Vec3.{Vec3}
-use Rattle.bands.specs.Corners.{Corner}
+use Rattle.tables.specs.Corners.{Corner}
 use Rattle.records.specs.Bytes.{sum}
 use Rattle.records.specs.Call.{Outcome, refused, closed, lentAfter}
 use Rattle.records.specs.Lent.{filledIf, least5}

@@ -10,7 +10,8 @@ use Rattle.numbers.specs.Constants.{plusZero}
 use Rattle.lists.proofs.Maps.{map-dropLast}
 use Rattle.loops.specs.Rings.{begun, closed, turned, unchanged}
 use Rattle.loops.proofs.Projections.{map-begun, map-closed, map-turned}
-use Rattle.rings.specs.Turns.{unlessZero, turnedUnless, beginRingAt, recutAt, turnedOnto, alignAt}
+use Rattle.tables.specs.Moves.{unlessZero}
+use Rattle.rings.specs.Turns.{turnedUnless, beginRingAt, recutAt, turnedOnto, alignAt}
 
 pub map-cond : {A B : Type 0} (g : A → B) (t : Bool) (xs ys : List A) → map g (cond t xs ys) ≡ cond t (map g xs) (map g ys)
 map-cond g true xs ys = refl

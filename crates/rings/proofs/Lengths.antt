@@ -12,7 +12,8 @@ use Rattle.numbers.specs.Constants.{plusZero}
 use Rattle.lists.proofs.Elements.{length-dropLast}
 use Rattle.loops.specs.Rings.{begun, closed, turned}
 use Rattle.rings.specs.Choices.{firstFrom, firstPast, firstOpenPast}
-use Rattle.rings.specs.Turns.{unlessZero, turnedUnless, beginRingAt, recutAt, turnedOnto, alignAt}
+use Rattle.tables.specs.Moves.{unlessZero}
+use Rattle.rings.specs.Turns.{turnedUnless, beginRingAt, recutAt, turnedOnto, alignAt}
 
 module _ {A : Type 0} where
   pub length-if : (n : ℕ) (t : Bool) (xs ys : List A) → length xs ≡ n → length ys ≡ n → length (cond t xs ys) ≡ n

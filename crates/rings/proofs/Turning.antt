@@ -13,7 +13,8 @@ use Rattle.lists.specs.Parts.{onPart}
 use Rattle.lists.proofs.Parts.{on-part}
 use Rattle.numbers.specs.Constants.{plusZero}
 use Rattle.loops.specs.Rings.{begun, closed, turned, unchanged}
-use Rattle.rings.specs.Turns.{unlessZero, turnedUnless, recutAt, turnedOnto, alignAt}
+use Rattle.tables.specs.Moves.{unlessZero}
+use Rattle.rings.specs.Turns.{turnedUnless, recutAt, turnedOnto, alignAt}
 use Rattle.lists.proofs.Elements.{length-dropLast}
 use Rattle.rings.proofs.Lengths.{length-begun}
 
@@ -138,12 +139,3 @@ module _ {A : Type 0} (f : A → A) (k : ℕ) (a : List A) where
     pub align-turned : (a′ : List A) → 3 ≤ length a → a′ ≡ turnedOnto f g k a → a′ ≡ alignAt f g k a
     unfolding alignAt
     align-turned a′ h e = e ∙ sym (rw (le-ltb (length a) 3 h))
-
-module _ {A : Type 0} (step : Float) (f : A → A) (a : List A) where
-  pub moved-unless : (a′ : List A) → ne step plusZero ≡ true → a′ ≡ map f a → a′ ≡ unlessZero step f a
-  unfolding unlessZero
-  moved-unless a′ t e = e ∙ sym (rw t)
-
-  pub stays-if : ne step plusZero ≡ false → a ≡ unlessZero step f a
-  unfolding unlessZero
-  stays-if t = sym (rw t)

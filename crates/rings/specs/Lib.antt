@@ -1,4 +1,3 @@
-pub mod Moves
 pub mod Turns
 pub mod Choices
 pub mod Starts

@@ -8,7 +8,8 @@ use lib.ListN.{length, getD}
 use Rattle.numbers.specs.Rounded.{_⊕_, _⊖_}
 use Rattle.loops.specs.Branch.{branchShift}
 use Rattle.rings.specs.Choices.{firstOf, firstFrom, nearest, beginsBackward, serve}
-use Rattle.rings.specs.Turns.{unlessZero, beginRingAt, alignAt}
+use Rattle.tables.specs.Moves.{unlessZero}
+use Rattle.rings.specs.Turns.{beginRingAt, alignAt}
 
 module _ (period : Float) where
   abbrev pub raise : Float → Float

@@ -3,16 +3,10 @@ use Prim.Native.Nat.{ℕ}
 use mathlib.Core.Bool.{cond, _||_}
 use mathlib.Core.List.{List, map, dropLast}
 use lib.Dec.{ltb, eqb}
-use lib.Ieee.{Float, ne}
 use lib.ListN.{length}
-use Rattle.numbers.specs.Constants.{plusZero}
 use Rattle.loops.specs.Rings.{begun, closed, turned}
 
 module _ {A : Type 0} where
-  -- f done to all, where the step is not zero
-  unfoldable pub unlessZero : Float → (A → A) → List A → List A
-  unlessZero step f xs = cond (ne step plusZero) (map f xs) xs
-
   -- a ring turned to begin at point k, what comes round done `again`. One that is to begin where it does stays, and so does one of fewer than `few` points.
   unfoldable pub turnedUnless : ℕ → (A → A) → ℕ → List A → List A
   turnedUnless few again k xs = cond (eqb k 0 || ltb (length xs) few) xs (turned again k xs)

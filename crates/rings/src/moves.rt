@@ -6,26 +6,12 @@ ghost use lib.ListN.{length};
 ghost use lib.Ieee.{nan};
 ghost use Rattle.lists.specs.Parts.{onPart, swapped};
 ghost use Rattle.loops.specs.Rings.{begun};
-ghost use Rattle.rings.specs.Moves.{movedBy};
-ghost use Rattle.rings.specs.Turns.{unlessZero, turnedUnless, beginRingAt, recutAt, turnedOnto, alignAt};
+ghost use Rattle.tables.specs.Moves.{movedBy};
+ghost use Rattle.tables.specs.Moves.{unlessZero};
+ghost use Rattle.rings.specs.Turns.{turnedUnless, beginRingAt, recutAt, turnedOnto, alignAt};
 ghost use mathlib.Core.List as List;
-
-// A step along u or v, or none: what comes round a ring has its u raised, and all else stays.
-pub enum Move {
-    Stay,
-    Up(f64),
-    Down(f64),
-}
-
-fn moved(x: f64, m: Move) -> f64
-    ensures { λ r. ⌜ r ≡ movedBy m x ⌝ }
-{
-    match m {
-        Move::Stay => x,
-        Move::Up(step) => x + step,
-        Move::Down(step) => x - step,
-    }
-}
+use tables::moves::Move;
+use tables::moves::moved;
 
 pub fn move_all(s: &mut [f64], m: Move)
     ensures { λ _. ⌜ now (s .exit) ≡ map (movedBy m) (now (s .entry)) ⌝ }

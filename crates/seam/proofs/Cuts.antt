@@ -14,8 +14,8 @@ use Rattle.lists.proofs.Placed.{placed-whole}
 use Rattle.numbers.specs.Rounded.{_⊕_}
 use Rattle.rings.specs.Choices.{leastU, greatestU, firstOpenPast}
 use Rattle.rings.specs.Turns.{recutAt}
-use Rattle.rings.specs.Moves.{movedBy}
-use Rattle.rings.specs.declared.moves.Move.the-variants.{Up}
+use Rattle.tables.specs.Moves.{movedBy}
+use Rattle.tables.specs.declared.moves.Move.the-variants.{Up}
 use Rattle.seam.specs.declared.gap.Gap.{Gap}
 use Rattle.seam.specs.Gap.{Span, spanOf, sorted, gapAlong, widestGap, usable, spansOf, lowsOf, highsOf, sortedLows, sortedHighs}
 use Rattle.seam.specs.Holes.{ontoU, anyStraddles, endOf}

@@ -17,9 +17,9 @@ use Rattle.lists.proofs.Filling.{Filling, front, front-turn, filling-end}
 use Rattle.lists.proofs.Pieces.{Cutting, cutting, cutting-turn, cutting-piece, length-pieces}
 use Rattle.lists.proofs.Placed.{placed-short}
 use Rattle.rings.specs.Choices.{stripShift, straddles}
-use Rattle.rings.specs.Turns.{unlessZero}
-use Rattle.rings.specs.Moves.{movedBy}
-use Rattle.rings.specs.declared.moves.Move.the-variants.{Down}
+use Rattle.tables.specs.Moves.{unlessZero}
+use Rattle.tables.specs.Moves.{movedBy}
+use Rattle.tables.specs.declared.moves.Move.the-variants.{Down}
 use Rattle.rings.proofs.Lengths.{length-unlessZero}
 use Rattle.seam.specs.Holes.{ontoU, anyStraddles, endOf}
 

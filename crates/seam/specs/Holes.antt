@@ -5,7 +5,7 @@ use lib.Ieee.{Float}
 use Rattle.numbers.specs.Rounded.{_⊖_}
 use Rattle.loops.specs.Span.{leastOf, greatestOf}
 use Rattle.rings.specs.Choices.{stripShift, straddles}
-use Rattle.rings.specs.Turns.{unlessZero}
+use Rattle.tables.specs.Moves.{unlessZero}
 
 -- the upper or the lower end of what a hole covers
 unfoldable pub endOf : Bool → List Float → Float

@@ -9,9 +9,9 @@ ghost use Rattle.loops.specs.Rings.{begun, unchanged};
 ghost use Rattle.seam.specs.Gap.{span, spansOf, gapAlong, sortedLows, sortedHighs};
 ghost use Rattle.seam.specs.Gap as Gaps;
 use numbers::order::max;
-use rings::moves::Move;
 use rings::moves::begin;
 use slices::shorter;
+use tables::moves::Move;
 
 // How far the holes reach so far, the widest gap before them, and its middle.
 pub struct Gap {

@@ -13,9 +13,9 @@ use loops::span::greatest;
 use loops::span::least;
 use rings::choices::straddles;
 use rings::choices::strip_shift;
-use rings::moves::Move;
 use rings::moves::move_unless_zero;
 use slices::piece_end;
+use tables::moves::Move;
 
 // One hole, by whole periods.
 fn onto(u: &mut [f64], lo: f64, period: f64)

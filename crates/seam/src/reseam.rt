@@ -19,8 +19,8 @@ use numbers::order::is_finite;
 use rings::choices::first_open_past;
 use rings::choices::greatest_u;
 use rings::choices::least_u;
-use rings::moves::Move;
 use rings::moves::recut_at;
+use tables::moves::Move;
 
 // Whether the rings were cut anew, and the points at which they then begin: their v and their
 // coordinates are still to be begun there.

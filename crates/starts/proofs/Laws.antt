@@ -14,10 +14,11 @@ use Rattle.lists.proofs.Parts.{part-is}
 use Rattle.lists.proofs.Placed.{length-placed, on-placed, read-placed, before-placed}
 use Rattle.numbers.specs.Rounded.{_⊕_, _⊖_}
 use Rattle.loops.specs.Branch.{branchShift}
-use Rattle.rings.specs.declared.moves.Move.the-variants.{Up, Down}
+use Rattle.tables.specs.declared.moves.Move.the-variants.{Up, Down}
 use Rattle.rings.specs.Choices.{firstOf, firstFrom, nearest, beginsBackward, serve}
-use Rattle.rings.specs.Moves.{movedBy}
-use Rattle.rings.specs.Turns.{unlessZero, beginRingAt, alignAt}
+use Rattle.tables.specs.Moves.{movedBy}
+use Rattle.tables.specs.Moves.{unlessZero}
+use Rattle.rings.specs.Turns.{beginRingAt, alignAt}
 use Rattle.rings.specs.Starts.{raise, alignedU, slidU, firstFor, laterFor, serves, firstServing, start}
 use Rattle.rings.proofs.Decisions.{Seeking, seeking, seeking-turn, seeking-found, seeking-end, serve-backward}
 use Rattle.rings.proofs.Lengths.{length-beginRingAt, length-alignAt, length-unlessZero}

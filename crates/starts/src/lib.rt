@@ -11,12 +11,12 @@ use rings::choices::begins_backward;
 use rings::choices::first_of;
 use rings::choices::nearest;
 use rings::choices::serve;
-use rings::moves::Move;
 use rings::moves::align_at;
 use rings::moves::begin_ring_at;
 use rings::moves::move_unless_zero;
 use slices::at;
 use slices::copy_into;
+use tables::moves::Move;
 
 // What a search answers.
 pub enum Search {

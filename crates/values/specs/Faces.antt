@@ -31,7 +31,8 @@ use Rattle.loops.specs.Steps.{net, netOf, count, stepsRound, stepsAlong}
 use Rattle.loops.specs.Wrap.{netWrap, turnsCounted}
 use Rattle.rings.specs.Choices.{leastU, greatestU, firstPast, firstOpenPast, stripShift, straddles, nearest, firstLeast, firstFrom as startFrom, serve, beginsBackward, standsAtTheCut}
 use Rattle.rings.specs.Starts.{alignedU, slidU, firstFor, laterFor, serves, firstServing, start as startOf}
-use Rattle.rings.specs.Turns.{unlessZero, turnedUnless, turnedOnto, alignAt}
+use Rattle.tables.specs.Moves.{unlessZero}
+use Rattle.rings.specs.Turns.{turnedUnless, turnedOnto, alignAt}
 use Rattle.seam.specs.Gap.{insert, sorted, passed, gapAlong, widestGap, usable}
 use Rattle.bands.specs.Band.{firstIsLower, lift, joined, lowerFirst, lowerRing, upperRing, stripOf, outer, holes}
 use Rattle.bands.specs.Given.{only, givenOf}

@@ -21,7 +21,7 @@ use Rattle.regions.specs.Outer.{outerOf}
 use Rattle.regions.specs.Values.{squareU, squareV, equal-squares}
 use Rattle.rings.specs.Choices.{nearest, firstLeast}
 use Rattle.rings.specs.Turns.{turnedOnto, alignAt}
-use Rattle.bands.specs.Corners.{Corner}
+use Rattle.tables.specs.Corners.{Corner}
 use Rattle.bands.specs.Rings.{alignCuts}
 
 -- a loop that travels so far in u

@@ -17,7 +17,7 @@ use Rattle.lists.proofs.Placed.{front-placed}
 use Rattle.surfaces.specs.declared.options.Resolved.{Resolved}
 use Rattle.surfaces.specs.declared.surface.Surface.{Surface}
 use Rattle.whole.specs.Boundary.{usOf, vsOf, xsOf, ysOf, zsOf, wholeCorners, positionOf, wholePositions, wholeArea, wholeRoom, lentTo}
-use Rattle.bands.specs.Corners.{Corner}
+use Rattle.tables.specs.Corners.{Corner}
 use Rattle.records.specs.Result.{cornersOf}
 use Rattle.judgement.specs.Face.{surfaceIn, frameIn, optionsIn}
 use Rattle.judgement.specs.Paths.{wholeLoop}

@@ -10,7 +10,7 @@ use Rattle.surfaces.specs.declared.surface.Period.{Period}
 use Rattle.surfaces.specs.declared.surface.Period.the-variants.{Every, None}
 use Rattle.loops.specs.Mean.{meanOf}
 use Rattle.rings.proofs.Carried.{map-each}
-use Rattle.bands.specs.Corners.{Corner, Corners, vs, moveV}
+use Rattle.tables.specs.Corners.{Corner, Corners, vs, moveV}
 use Rattle.bands.specs.Rings.{Face}
 use Rattle.bands.specs.Strip.{Setting}
 use Rattle.bands.specs.Band.{firstIsLower, lift, meanV, pick}

@@ -14,7 +14,7 @@ use Rattle.surfaces.specs.declared.surface.Surface.{Surface}
 use Rattle.loops.specs.Area.{areaOf}
 use Rattle.loops.proofs.SamePosition.{same-position}
 use Rattle.strip.specs.Layout.{capped}
-use Rattle.bands.specs.Corners.{Corner, Corners, us, vs, positions, moveV}
+use Rattle.tables.specs.Corners.{Corner, Corners, us, vs, positions, moveV}
 use Rattle.bands.specs.Given.{Given}
 use Rattle.bands.specs.Rings.{Face}
 use Rattle.bands.specs.Strip.{Setting}

@@ -10,7 +10,7 @@ use Rattle.numbers.specs.declared.math.Vec3.{Vec3}
 use Rattle.lists.specs.Pieces.{pieces}
 use Rattle.loops.specs.Area.{areaOf}
 use Rattle.strip.specs.Layout.{capped}
-use Rattle.bands.specs.Corners.{us, vs, positions}
+use Rattle.tables.specs.Corners.{us, vs, positions}
 use Rattle.bands.specs.Given.{Given}
 use Rattle.bands.specs.Strip.{Setting}
 use Rattle.bands.specs.Band.{stripOf, outer, holes}

@@ -6,7 +6,7 @@ ghost use mathlib.Core.List.{map};
 ghost use lib.ListN.{length};
 ghost use Rattle.numbers.specs.declared.math.Vec3.{Vec3};
 ghost use Rattle.surfaces.specs.Domains.{vPeriod};
-ghost use Rattle.bands.specs.Corners.{Corners, moveV};
+ghost use Rattle.tables.specs.Corners.{Corners, moveV};
 ghost use Rattle.bands.specs.Rings.{Face};
 ghost use Rattle.bands.specs.Columns.{settingOf};
 ghost use Rattle.closing.specs.Closing.{Rings, Closes, roomIn};

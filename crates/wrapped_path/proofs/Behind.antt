@@ -11,7 +11,7 @@ use Rattle.numbers.specs.declared.math.Vec3.{Vec3}
 use Rattle.lists.specs.Pieces.{pieces}
 use Rattle.lists.specs.Placed.{placed}
 use Rattle.lists.proofs.Placed.{placed-fits, take-placed, front-placed}
-use Rattle.bands.specs.Corners.{Corner, Corners, positions}
+use Rattle.tables.specs.Corners.{Corner, Corners, positions}
 use Rattle.bands.proofs.Lengths.{lengths-each}
 use Rattle.records.specs.Result.{cornersOf, countOf, areaOf}
 use Rattle.judgement.specs.Paths.{ResultLoop, loopOf, loopsFrom}

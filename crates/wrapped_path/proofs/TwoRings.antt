@@ -8,7 +8,7 @@ use native.Mathlib.Nat.{eq-or-lt-of-le}
 use native.Mathlib.Omega.{arith}
 use lib.ListN.{length, getD, length-map}
 use Rattle.numbers.specs.declared.math.Vec3.{Vec3}
-use Rattle.bands.specs.Corners.{Corners}
+use Rattle.tables.specs.Corners.{Corners}
 use Rattle.bands.specs.Given.{Measured, Loop, only, givenOf}
 use Rattle.records.specs.Bytes.{sum}
 use Rattle.records.specs.Refusals.{nowhere, at, firstWhere}

@@ -7,7 +7,7 @@ use lib.ListN.{length, take, drop, length-map}
 use lib.Seq.{take-add}
 use Rattle.numbers.specs.declared.math.Vec3.{Vec3}
 use Rattle.lists.specs.Pieces.{pieces}
-use Rattle.bands.specs.Corners.{Corner, Corners, us, positions}
+use Rattle.tables.specs.Corners.{Corner, Corners, us, positions}
 use Rattle.bands.specs.Columns.{Columns}
 use Rattle.bands.specs.Given.{Given}
 use Rattle.bands.specs.Strip.{Setting}

@@ -6,7 +6,7 @@ use mathlib.Core.List.{List, map}
 use lib.Ieee.{Float}
 use lib.ListN.{length}
 use Rattle.numbers.specs.declared.math.Vec3.{Vec3}
-use Rattle.bands.specs.Corners.{Corners, us}
+use Rattle.tables.specs.Corners.{Corners, us}
 use Rattle.bands.specs.Columns.{Columns}
 use Rattle.bands.specs.Strip.{Setting}
 use Rattle.records.specs.Limits.{maxLoops, maxPoints, maxStrip}

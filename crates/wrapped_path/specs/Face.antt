@@ -8,7 +8,7 @@ use lib.Ieee.{Float}
 use lib.ListN.{length, take}
 use Rattle.numbers.specs.declared.math.Vec3.{Vec3}
 use Rattle.lists.specs.Pieces.{pieces}
-use Rattle.bands.specs.Corners.{us}
+use Rattle.tables.specs.Corners.{us}
 use Rattle.bands.specs.Columns.{Columns}
 use Rattle.bands.specs.Given.{Given}
 use Rattle.bands.specs.Strip.{Setting}

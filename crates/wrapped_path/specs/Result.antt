@@ -5,7 +5,7 @@ use mathlib.Core.List.{List, _∷_, map}
 use lib.Ieee.{Float}
 use lib.ListN.{length, take}
 use Rattle.numbers.specs.declared.math.Vec3.{Vec3}
-use Rattle.bands.specs.Corners.{Corners, us, vs, positions}
+use Rattle.tables.specs.Corners.{Corners, us, vs, positions}
 use Rattle.bands.specs.Columns.{xs, ys, zs, Columns}
 use Rattle.bands.specs.Given.{Given}
 use Rattle.bands.specs.Strip.{Setting}

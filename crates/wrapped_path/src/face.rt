@@ -6,7 +6,7 @@ ghost use lib.IntN.{pos};
 ghost use lib.ListN.{length, getD};
 ghost use Rattle.numbers.specs.declared.math.Vec3.{Vec3};
 ghost use Rattle.lists.specs.Pieces.{pieces};
-ghost use Rattle.bands.specs.Corners.{Corners};
+ghost use Rattle.tables.specs.Corners.{Corners};
 ghost use Rattle.bands.specs.Columns.{settingOf};
 ghost use Rattle.bands.specs.Given.{falls};
 ghost use Rattle.records.specs.Limits.{maxPoints};

@@ -14,7 +14,7 @@ use Rattle.regions.specs.Table.{loopsOf, boxesOf}
 use Rattle.regions.specs.Outer.{outerOf}
 use Rattle.regions.specs.Closed.{roomFor, closedRegion}
 use Rattle.regions.specs.Rephase.{Arrays, arrays, rephaseHoles}
-use Rattle.bands.specs.Corners.{Corners, us, vs}
+use Rattle.tables.specs.Corners.{Corners, us, vs}
 use Rattle.bands.proofs.Lengths.{lengths-each}
 use Rattle.judgement.specs.Paths.{boundsOf, signedArea, outerNumber}
 use Rattle.faces.specs.Held.{concat}

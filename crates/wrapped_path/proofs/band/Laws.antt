@@ -11,7 +11,7 @@ use Rattle.numbers.specs.declared.math.Vec3.{Vec3}
 use Rattle.lists.specs.Pieces.{pieces}
 use Rattle.lists.specs.Placed.{placed}
 use Rattle.lists.proofs.Placed.{placed-fits, front-placed, length-placed}
-use Rattle.bands.specs.Corners.{Corner, Corners, us}
+use Rattle.tables.specs.Corners.{Corner, Corners, us}
 use Rattle.bands.specs.Columns.{Columns}
 use Rattle.bands.specs.Given.{Given, Loop}
 use Rattle.bands.specs.Strip.{Setting}

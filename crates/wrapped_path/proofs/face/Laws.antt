@@ -19,7 +19,7 @@ use lib.Seq.{take-at}
 use Rattle.numbers.specs.declared.math.Vec3.{Vec3}
 use Rattle.lists.specs.Pieces.{pieces}
 use Rattle.loops.proofs.Trailing.{repeats-fewer}
-use Rattle.bands.specs.Corners.{Corner, Corners, positions}
+use Rattle.tables.specs.Corners.{Corner, Corners, positions}
 use Rattle.bands.specs.Columns.{Columns}
 use Rattle.bands.specs.Given.{Given, Loop, falls}
 use Rattle.bands.specs.Strip.{Setting}

@@ -1,7 +1,7 @@
 use mathlib.Core.Path.{_∙_}
 use Rattle.loops.proofs.Turns.{begun-past}
 use Rattle.rings.proofs.Turning.{begun-here}
-use Rattle.rings.specs.Moves.{movedBy}
+use Rattle.tables.specs.Moves.{movedBy}
 use borrow.Author.Needs.{needs}
 use Rattle.rings.proofs.moves.begin.Statement.{statement}
 use Rattle.rings.proofs.moves.begin.Tie as tie

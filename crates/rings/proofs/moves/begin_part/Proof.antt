@@ -1,6 +1,6 @@
 use Rattle.lists.proofs.Parts.{part-is}
 use Rattle.loops.specs.Rings.{begun}
-use Rattle.rings.specs.Moves.{movedBy}
+use Rattle.tables.specs.Moves.{movedBy}
 use borrow.Author.Needs.{needs}
 use Rattle.rings.proofs.moves.begin_part.Statement.{statement}
 use Rattle.rings.proofs.moves.begin_part.Tie as tie

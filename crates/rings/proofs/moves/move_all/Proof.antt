@@ -2,7 +2,7 @@ use Prim.Native.Nat.{_-_}
 use lib.ListN.{length}
 use lib.Ieee.{nan}
 use Rattle.lists.proofs.Mapping.{Mapping, mapping, mapping-turn, mapping-end}
-use Rattle.rings.specs.Moves.{movedBy}
+use Rattle.tables.specs.Moves.{movedBy}
 use native.Mathlib.Omega.{arith}
 use borrow.Author.Needs.{needs}
 use Rattle.rings.proofs.moves.move_all.Statement.{statement}

@@ -1,6 +1,6 @@
 use mathlib.Core.List.{map}
 use Rattle.lists.proofs.Parts.{part-is}
-use Rattle.rings.specs.Moves.{movedBy}
+use Rattle.tables.specs.Moves.{movedBy}
 use borrow.Author.Needs.{needs}
 use Rattle.rings.proofs.moves.move_part.Statement.{statement}
 use Rattle.rings.proofs.moves.move_part.Tie as tie

@@ -1,4 +1,4 @@
-use Rattle.rings.proofs.Turning.{moved-unless, stays-if}
+use Rattle.tables.proofs.Unless.{moved-unless, stays-if}
 use borrow.Author.Needs.{needs}
 use Rattle.rings.proofs.moves.move_unless_zero.Statement.{statement}
 use Rattle.rings.proofs.moves.move_unless_zero.Tie as tie

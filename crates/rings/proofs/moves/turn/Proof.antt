@@ -1,7 +1,7 @@
 use lib.Ieee.{nan}
 use lib.ListN.{length-set}
 use Rattle.rings.proofs.Turning.{turned-here}
-use Rattle.rings.specs.Moves.{movedBy}
+use Rattle.tables.specs.Moves.{movedBy}
 use borrow.Author.Needs.{needs}
 use Rattle.rings.proofs.moves.turn.Statement.{statement}
 use Rattle.rings.proofs.moves.turn.Tie as tie

@@ -1,9 +1,9 @@
 use mathlib.Core.Path.{sym, ap}
-use Rattle.rings.specs.declared.moves.Move.{Move}
-use Rattle.rings.specs.Moves.{movedBy}
+use Rattle.tables.specs.declared.moves.Move.{Move}
+use Rattle.tables.specs.Moves.{movedBy}
 use borrow.Author.Needs.{needs}
-use Rattle.rings.proofs.moves.moved.Statement.{statement}
-use Rattle.rings.proofs.moves.moved.Tie as tie
+use Rattle.tables.proofs.moves.moved.Statement.{statement}
+use Rattle.tables.proofs.moves.moved.Tie as tie
 
 enum-told : tie.Need-enum-told
 enum-told c = search needs

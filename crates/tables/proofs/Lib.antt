@@ -1,0 +1,5 @@
+pub mod Rows
+pub mod InPlace
+pub mod PartRows
+pub mod Taking
+pub mod Unless
