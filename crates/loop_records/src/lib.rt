@@ -51,6 +51,22 @@ fn with_record(loops: [LoopRecord; 16], i: usize, one: LoopRecord) -> [LoopRecor
     lent
 }
 
+// One record of the list; past the end it is that of no loop.
+pub fn loop_at(loops: [LoopRecord; 16], i: usize) -> LoopRecord
+    ensures { λ r. ⌜ r ≡ getD loops i noLoop ⌝ }
+{
+    if i < 16 {
+        return record_of(loops, i);
+    }
+    LoopRecord {
+        start: 0,
+        count: 0,
+        wrap: 0,
+        travel: 0,
+        area: 0.0,
+    }
+}
+
 // A list of no loops.
 pub fn no_loops() -> [LoopRecord; 16]
     ensures { λ r. ⌜ r ≡ replicate 16 noLoop ⌝ }

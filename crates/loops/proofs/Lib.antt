@@ -10,3 +10,4 @@ pub mod Projections
 pub mod SamePosition
 pub mod Trailing
 pub mod Landing
+pub mod mean

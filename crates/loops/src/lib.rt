@@ -2,8 +2,8 @@
 // (specs/Steps, Repeats, Rings and their laws in proofs/).
 pub mod area;
 pub mod branch;
-pub mod mean;
 pub mod part;
+pub mod rows;
 pub mod span;
 pub mod stretch;
 pub mod wrap;

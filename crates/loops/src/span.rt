@@ -1,7 +1,6 @@
-// The least and the greatest of a loop's parameters, and the middle between them. Of none they are
-// +infinity and -infinity.
+// The least and the greatest of a loop's parameters. Of none they are +infinity and -infinity.
 ghost use mathlib.Core.Path.{_≡_};
-ghost use Rattle.loops.specs.Span.{leastOf, greatestOf, middleOf};
+ghost use Rattle.loops.specs.Span.{leastOf, greatestOf};
 use numbers::order::max;
 use numbers::order::min;
 
@@ -27,10 +26,4 @@ pub fn greatest(xs: &[f64]) -> f64
         i += 1;
     }
     hi
-}
-
-pub fn middle(xs: &[f64]) -> f64
-    ensures { λ r. ⌜ r ≡ middleOf (now (xs .entry)) ⌝ }
-{
-    (least(xs) + greatest(xs)) * 0.5
 }

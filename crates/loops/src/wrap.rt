@@ -1,7 +1,7 @@
 // How many whole periods a loop travels in u.
 ghost use mathlib.Core.Path.{_≡_};
 ghost use lib.Ieee.{toSigned};
-ghost use Rattle.loops.specs.Wrap.{turnsCounted, netWrap};
+ghost use Rattle.loops.specs.Wrap.{turnsCounted};
 use numbers::order::abs;
 use numbers::rounding::round;
 
@@ -23,7 +23,7 @@ fn saturated(x: f64) -> i32
 }
 
 // Of `turns`, travel over period: the whole number that it is less than 0.15 off, unless that is 0.
-fn turns_counted(turns: f64) -> i32
+pub fn turns_counted(turns: f64) -> i32
     ensures { λ r. ⌜ r ≡ turnsCounted turns ⌝ }
 {
     let whole = round(turns);
@@ -33,16 +33,4 @@ fn turns_counted(turns: f64) -> i32
         }
     }
     0
-}
-
-// A loop carries its closing point, so its travel is from the first u to the last. An open
-// direction has the period 0.0, in which nothing wraps.
-pub fn net_wrap(u: &[f64], period: f64) -> i32
-    ensures { λ r. ⌜ r ≡ netWrap (now (u .entry)) period ⌝ }
-{
-    let n = u.len();
-    if n < 2 {
-        return 0;
-    }
-    turns_counted((u[n - 1] - u[0]) / period)
 }

@@ -1,9 +1,7 @@
 pub mod Heads
-pub mod EachPiece
 pub mod Recorded
 pub mod Measured
-pub mod OnePiece
-pub mod Searches
 pub mod Judged
-pub mod ReadLoops
+pub mod Searches
 pub mod RingsGiven
+pub mod ReadLoops

@@ -1,25 +1,24 @@
--- The wraps of a face record's loops, from parallel lists that hold the loops.
-use Prim.Native.Nat.{ℕ, _≤_}
+-- The wraps and the areas of a face record's loops, from the records that are measured of them.
+use Prim.Native.Nat.{ℕ, _+_, _≤_}
 use mathlib.Core.Path.{_≡_, refl, sym, ap, _∙_}
-use mathlib.Core.List.{List, [], _∷_, map, map-map, map-append}
+use mathlib.Core.List.{List, [], _∷_, map, map-map}
 use native.Mathlib.Omega.{arith}
 use lib.IntN.{ℤ, pos}
 use lib.Ieee.{Float}
 use lib.ListN.{length, take, length-map}
-use lib.Seq.{take-at, drop-at}
 use Rattle.numbers.specs.declared.math.Vec3.{Vec3}
 use Rattle.surfaces.specs.declared.surface.Period.{Period}
 use Rattle.surfaces.specs.declared.surface.Period.the-variants.{Every, None}
 use Rattle.surfaces.specs.Domains.{uPeriod}
-use Rattle.lists.specs.Pieces.{pieces}
 use Rattle.lists.specs.Placed.{placed}
-use Rattle.lists.proofs.Pieces.{length-pieces}
 use Rattle.lists.proofs.Placed.{front-placed}
-use Rattle.loops.specs.Wrap.{netWrap}
 use Rattle.tables.specs.Corners.{Corner, Corners, us}
+use Rattle.loops.specs.Wrap.{netWrap}
+use Rattle.loop_records.specs.declared.LoopRecord.{LoopRecord}
 use Rattle.judgement.specs.Face.{surfaceIn, loopsIn, wrapOf, measuredIn}
-use Rattle.faces.specs.Held.{concat, HoldsLoops}
-use Rattle.measuring.specs.Wraps.{wrapAlong, wrapsIn}
+use Rattle.judgement.specs.Paths.{signedArea}
+use Rattle.measuring.specs.Loops.{wrapAlong, recordOf, recordsFrom, wrapsIn}
+use Rattle.measuring.proofs.Recorded.{length-records, wraps-recorded}
 
 -- ---- as the code finds them
 
@@ -29,44 +28,40 @@ wrap-every us period p r e w = w ∙ sym (ap (λ (q : Period). wrapAlong q us) e
 pub wrap-none : (us : List Float) (period : Period) → period ≡ None → pos 0 ≡ wrapAlong period us
 wrap-none us period e = sym (ap (λ (q : Period). wrapAlong q us) e)
 
--- ---- loops one behind the other are told apart by their numbers of points
-
-module _ {A B : Type 0} (f : A → B) where
-  pub pieces-concat : (ls : List (List A)) → pieces (map length ls) (map f (concat ls)) ≡ map (map f) ls
-  unfolding pieces concat
-  pieces-concat [] = refl
-  pieces-concat (l ∷ ls) =
-      let n : length (map f l) ≡ length l = length-map l f in
-      ap (pieces (length l ∷ map length ls)) (map-append f l (concat ls))
-      ∙ (λ i. take-at (map f l) (map f (concat ls)) (length l) n i ∷ pieces (map length ls) (drop-at (map f l) (map f (concat ls)) (length l) n i))
-      ∙ ap (λ (x : List (List B)). map f l ∷ x) (pieces-concat ls)
-
 -- ---- those of a record
 
 same-wrap : (p : Period) (loop : Corners Vec3) → wrapAlong p (us loop) ≡ wrapOf p loop
 same-wrap None loop = refl
 same-wrap (Every p) loop = refl
 
-wraps-along : (p : Period) (ls : List (Corners Vec3)) → map (wrapAlong p) (map us ls) ≡ map (wrapOf p) ls
+wraps-along : (p : Period) (ls : List (Corners Vec3)) → map (λ (r : Corners Vec3). wrapAlong p (us r)) ls ≡ map (wrapOf p) ls
 wraps-along p [] = refl
 wraps-along p (l ∷ ls) = λ i. same-wrap p l i ∷ wraps-along p ls i
 
-module _ (s : List ℕ) where
+areas-along : (p : Period) (start : ℕ) (ls : List (Corners Vec3)) → map (λ (l : LoopRecord). l .area) (recordsFrom p start ls) ≡ map signedArea ls
+unfolding recordsFrom recordOf
+areas-along p start [] = refl
+areas-along p start (r ∷ ls) = ap (λ (more : List Float). signedArea r ∷ more) (areas-along p (start + length r) ls)
+
+-- the front of a slice that what is read out of the records was put into
+front-read : {B : Type 0} (f : LoopRecord → B) (p : Period) (ls : List (Corners Vec3)) (n : ℕ) (b₀ b : List B) → n ≡ length ls → n ≤ length b₀
+    → b ≡ placed 0 (map f (recordsFrom p 0 ls)) b₀ → take n b ≡ map f (recordsFrom p 0 ls)
+front-read f p ls n b₀ b e room h =
+    let many : length (map f (recordsFrom p 0 ls)) ≡ n = length-map (recordsFrom p 0 ls) f ∙ length-records p 0 ls ∙ sym e in
+    (λ i. take (sym many i) (h i)) ∙ front-placed (map f (recordsFrom p 0 ls)) b₀ (omega arith)
+
+module _ (s : List ℕ) (ls : List (Corners Vec3)) (held : ls ≡ loopsIn s) (n : ℕ) (n-is : n ≡ length ls) where
   wraps-measured : wrapsIn s ≡ map (wrapOf (uPeriod (surfaceIn s))) (loopsIn s)
   unfolding measuredIn
   wraps-measured = map-map _ _ (loopsIn s)
 
-  module _ (counts : List ℕ) (u v x y z : List Float) (h : HoldsLoops (loopsIn s) counts u v x y z) where
-    -- what is put down as the wraps of the loops is what the record's loops have
-    pub wraps-held : map (wrapAlong (uPeriod (surfaceIn s))) (pieces counts u) ≡ wrapsIn s
-    wraps-held =
-        ap (map (wrapAlong (uPeriod (surfaceIn s)))) ((λ i. pieces (h .counts-are i) (h .columns .u-is i)) ∙ pieces-concat (λ (c : Corner Vec3). c .u) (loopsIn s))
-        ∙ wraps-along (uPeriod (surfaceIn s)) (loopsIn s) ∙ sym wraps-measured
+  -- a slice with room for them shows the wraps in its front
+  pub wraps-shown : (w₀ w : List ℤ) → n ≤ length w₀ → w ≡ placed 0 (map (λ (l : LoopRecord). l .wrap) (recordsFrom (uPeriod (surfaceIn s)) 0 ls)) w₀ → take n w ≡ wrapsIn s
+  wraps-shown w₀ w room e =
+      front-read (λ (l : LoopRecord). l .wrap) (uPeriod (surfaceIn s)) ls n w₀ w n-is room e
+      ∙ wraps-recorded (uPeriod (surfaceIn s)) 0 ls ∙ wraps-along (uPeriod (surfaceIn s)) ls ∙ ap (map (wrapOf (uPeriod (surfaceIn s)))) held ∙ sym wraps-measured
 
-    -- a slice with room for them shows them in its front
-    pub wraps-shown : (w₀ w : List ℤ) → length counts ≤ length w₀ → w ≡ placed 0 (map (wrapAlong (uPeriod (surfaceIn s))) (pieces counts u)) w₀
-        → take (length counts) w ≡ wrapsIn s
-    wraps-shown w₀ w room e =
-        let put : List ℤ = map (wrapAlong (uPeriod (surfaceIn s))) (pieces counts u) in
-        let many : length put ≡ length counts = length-map (pieces counts u) (wrapAlong (uPeriod (surfaceIn s))) ∙ length-pieces counts u in
-        (λ i. take (sym many i) (e i)) ∙ front-placed put w₀ (omega arith) ∙ wraps-held
+-- and the areas
+pub areas-shown : (p : Period) (ls : List (Corners Vec3)) (n : ℕ) (a₀ a : List Float) → n ≡ length ls → n ≤ length a₀
+    → a ≡ placed 0 (map (λ (l : LoopRecord). l .area) (recordsFrom p 0 ls)) a₀ → take n a ≡ map signedArea ls
+areas-shown p ls n a₀ a n-is room e = front-read (λ (l : LoopRecord). l .area) p ls n a₀ a n-is room e ∙ areas-along p 0 ls

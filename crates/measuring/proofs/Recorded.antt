@@ -1,4 +1,4 @@
--- The records of a face's loops, put into a list one by one, and the wraps read out of it.
+-- The records of a face's loops, put into a list one by one, and what is read out of it.
 use Prim.Native.Nat.{ℕ, zero, suc, _+_, _-_, _≤_, _<_, min}
 use mathlib.Core.Path.{_≡_, refl, sym, ap, _∙_}
 use mathlib.Core.Bool.{true, false, true≢false}
@@ -14,7 +14,7 @@ use lib.Seq.{drop-cons}
 use mir.Syntax.{w32}
 use mir.Val.{SFits, toZ, ofZ}
 use mir.Facts.{toZ-ofZ}
-use Rattle.numbers.specs.Constants.{plusZero}
+use Rattle.numbers.specs.declared.math.Vec3.{Vec3}
 use Rattle.surfaces.specs.declared.surface.Period.{Period}
 use Rattle.lists.specs.Pieces.{pieces}
 use Rattle.lists.specs.Placed.{placed}
@@ -23,7 +23,9 @@ use Rattle.lists.proofs.Pieces.{Cutting, cutting, cutting-turn, cutting-piece, 
 use Rattle.lists.proofs.Placed.{placed-short, front-placed}
 use Rattle.loop_records.specs.declared.LoopRecord.{LoopRecord}
 use Rattle.loop_records.specs.Record.{noLoop}
-use Rattle.measuring.specs.Wraps.{wrapAlong, signOf, recordOf, recordsFrom}
+use Rattle.tables.specs.Corners.{Corners, us, vs}
+use Rattle.loops.specs.Area.{areaOf}
+use Rattle.measuring.specs.Loops.{wrapAlong, signOf, recordOf, recordsFrom}
 
 -- ---- the sign of a wrap, from the two tests
 
@@ -53,35 +55,33 @@ module _ (z : ℤ) (fits : SFits w32 z) where
 
 -- ---- one record
 
-pub record-is : (period : Period) (xs : List Float) (from to : ℕ) (w t : ℤ) → from ≤ to → to ≤ length xs → SFits w32 w → SFits w32 t → w ≡ wrapAlong period (take (to - from) (drop from xs)) → t ≡ signOf (toZ w32 (ofZ w32 w))
-    → record { start = from; count = to - from; wrap = toZ w32 (ofZ w32 w); travel = toZ w32 (ofZ w32 t); area = plusZero } ≡ recordOf period from (take (to - from) (drop from xs))
+pub record-is : (period : Period) (r : Corners Vec3) (start n : ℕ) (w t : ℤ) (a : Float) → n ≡ length r → SFits w32 w → SFits w32 t → w ≡ wrapAlong period (us r)
+    → t ≡ signOf (toZ w32 (ofZ w32 w)) → a ≡ areaOf (us r) (vs r)
+    → record { start = start; count = n; wrap = toZ w32 (ofZ w32 w); travel = toZ w32 (ofZ w32 t); area = a } ≡ recordOf period start r
 unfolding recordOf
-record-is period xs from to w t low high wf tf we te =
-    let l = length-take (to - from) (drop from xs) in
-    let k = length-drop from xs in
-    let count : to - from ≡ length (take (to - from) (drop from xs)) = omega arith in
+record-is period r start n w t a ne wf tf we te ae =
     let wrap = toZ-ofZ wf ∙ we in
     let travel = toZ-ofZ tf ∙ te ∙ ap signOf wrap in
-    λ i. record { start = from; count = count i; wrap = wrap i; travel = travel i; area = plusZero }
+    λ i. record { start = start; count = ne i; wrap = wrap i; travel = travel i; area = ae i }
 
 -- ---- one for each loop
 
 module _ (period : Period) where
-  length-records : (start : ℕ) (loops : List (List Float)) → length (recordsFrom period start loops) ≡ length loops
+  pub length-records : (start : ℕ) (loops : List (Corners Vec3)) → length (recordsFrom period start loops) ≡ length loops
   unfolding recordsFrom
   length-records start [] = refl
-  length-records start (us ∷ loops) = ap suc (length-records (start + length us) loops)
+  length-records start (r ∷ loops) = ap suc (length-records (start + length r) loops)
 
-  wraps-recorded : (start : ℕ) (loops : List (List Float)) → map (λ (l : LoopRecord). l .wrap) (recordsFrom period start loops) ≡ map (wrapAlong period) loops
+  pub wraps-recorded : (start : ℕ) (loops : List (Corners Vec3)) → map (λ (l : LoopRecord). l .wrap) (recordsFrom period start loops) ≡ map (λ (r : Corners Vec3). wrapAlong period (us r)) loops
   unfolding recordsFrom recordOf
   wraps-recorded start [] = refl
-  wraps-recorded start (us ∷ loops) = ap (λ (ws : List ℤ). wrapAlong period us ∷ ws) (wraps-recorded (start + length us) loops)
+  wraps-recorded start (r ∷ loops) = ap (λ (ws : List ℤ). wrapAlong period (us r) ∷ ws) (wraps-recorded (start + length r) loops)
 
-  first-record : (start : ℕ) (us : List Float) (loops : List (List Float)) → recordsFrom period start (us ∷ loops) ≡ recordOf period start us ∷ recordsFrom period (start + length us) loops
+  first-record : (start : ℕ) (r : Corners Vec3) (loops : List (Corners Vec3)) → recordsFrom period start (r ∷ loops) ≡ recordOf period start r ∷ recordsFrom period (start + length r) loops
   unfolding recordsFrom
-  first-record start us loops = refl
+  first-record start r loops = refl
 
-module _ (period : Period) (ns : List ℕ) (xs : List Float) (d₀ : List LoopRecord) where
+module _ (period : Period) (ns : List ℕ) (xs : Corners Vec3) (d₀ : List LoopRecord) where
   abbrev wanted : List LoopRecord
   wanted = recordsFrom period 0 (pieces ns xs)
 
@@ -108,7 +108,7 @@ module _ (period : Period) (ns : List ℕ) (xs : List Float) (d₀ : List LoopRe
         (b-is ∙ ap (recordOf period from) (sym piece) ∙ sym (ap (λ (l : List LoopRecord). getD l 0 noLoop) cut)));
   }
     where
-      here : List Float
+      here : Corners Vec3
       here = getD (pieces ns xs) i []
 
       piece : here ≡ take (to - from) (drop from xs)
@@ -131,11 +131,12 @@ module _ (period : Period) (ns : List ℕ) (xs : List Float) (d₀ : List LoopRe
   pub recording-end : (d : List LoopRecord) (from i : ℕ) → Recording d from i → length ns ≤ i → d ≡ placed 0 wanted d₀
   recording-end d from i k h = filling-end 0 wanted d₀ d i (k .fill) (let l = length-wanted in omega arith)
 
--- what is read out of the list
-pub wraps-read-out : (period : Period) (ns : List ℕ) (xs : List Float) (d : List LoopRecord) (ws₀ ws : List ℤ) → length ns ≤ 16 → d ≡ placed 0 (recordsFrom period 0 (pieces ns xs)) (replicate 16 noLoop)
-    → ws ≡ placed 0 (map (λ (l : LoopRecord). l .wrap) (take (length ns) d)) ws₀ → ws ≡ placed 0 (map (wrapAlong period) (pieces ns xs)) ws₀
-wraps-read-out period ns xs d ws₀ ws few e r =
+-- what is read out of the list, of each loop: f of its record
+pub read-out : {B : Type 0} (f : LoopRecord → B) (period : Period) (ns : List ℕ) (xs : Corners Vec3) (d : List LoopRecord) (b₀ b : List B) → length ns ≤ 16
+    → d ≡ placed 0 (recordsFrom period 0 (pieces ns xs)) (replicate 16 noLoop) → b ≡ placed 0 (map f (take (length ns) d)) b₀
+    → b ≡ placed 0 (map f (recordsFrom period 0 (pieces ns xs))) b₀
+read-out f period ns xs d b₀ b few e r =
     let w : List LoopRecord = recordsFrom period 0 (pieces ns xs) in
     let l : length w ≡ length ns = length-records period 0 (pieces ns xs) ∙ length-pieces ns xs in
     let front : take (length ns) d ≡ w = ap (take (length ns)) e ∙ ap (λ (n : ℕ). take n (placed 0 w (replicate 16 noLoop))) (sym l) ∙ front-placed w (replicate 16 noLoop) (omega arith) in
-    r ∙ ap (λ (y : List LoopRecord). placed 0 (map (λ (l : LoopRecord). l .wrap) y) ws₀) front ∙ ap (λ (y : List ℤ). placed 0 y ws₀) (wraps-recorded period 0 (pieces ns xs))
+    r ∙ ap (λ (y : List LoopRecord). placed 0 (map f y) b₀) front

@@ -15,7 +15,7 @@ use Rattle.records.proofs.Search.{nowhere≢at, first-holds}
 use Rattle.judgement.specs.Face.{measuredIn, isWrapping, wrapping, givenIn}
 use Rattle.judgement.specs.Later.{loopIn}
 use Rattle.measuring.specs.Refusals.{wrapsAt, lastWhere}
-use Rattle.measuring.specs.Wraps.{wrapsIn}
+use Rattle.measuring.specs.Loops.{wrapsIn}
 use Rattle.measuring.proofs.Judged.{none, wraps-in}
 
 -- ---- what is found last, in plain facts

@@ -10,16 +10,20 @@ use mir.Syntax.{w32}
 use mir.Val.{ofZ, SFits}
 use lib.Dec.{eqb}
 use lib.IntN.{ℤ, pos, negsuc}
-use lib.Ieee.{Float, eq, nan}
-use lib.ListN.{length, getD, drop, drop-of-length-le, List·getD-eq-default}
+use lib.ListN.{length, getD, drop, drop-of-length-le, length-map, List·getD-eq-default, List·getD-map}
 use lib.Seq.{drop-cons}
+use Rattle.numbers.specs.Position.{same}
+use Rattle.numbers.specs.declared.math.Vec3.{Vec3}
+use Rattle.tables.specs.Corners.{Corner, Corners, positions}
+use Rattle.tables.specs.Rows.{none}
+use Rattle.lists.proofs.Pieces.{length-pieces}
 use Rattle.loops.specs.Rings.{endsMeet}
 use Rattle.loops.specs.Steps.{lastOf}
 use Rattle.lists.specs.Pieces.{pieces}
 use Rattle.bands.specs.Given.{wraps, only}
 use Rattle.records.specs.Refusals.{Place, nowhere, at, firstWhere}
 use Rattle.records.proofs.Search.{Seeking, seek-found, seek-end}
-use Rattle.measuring.specs.Refusals.{wrapsAt, meetsAt, closesAt, openAt, openAmong, wrappingOf, lastWhere, oneAmong, manyAmong, openKind}
+use Rattle.measuring.specs.Refusals.{wrapsAt, openAt, openAmong, wrappingOf, lastWhere, oneAmong, manyAmong, openKind}
 
 -- ---- a wrap that is not 0: the code compares bits
 
@@ -39,62 +43,62 @@ module _ (ws : List ℤ) (k : ℕ) where
 
 -- ---- the ends of a loop
 
-last-at : (x : Float) (xs : List Float) → lastOf x xs ≡ getD (x ∷ xs) (length xs) nan
-last-at x [] = refl
-last-at x (y ∷ xs) = last-at y xs
+module _ {A : Type 0} (test : A → A → Bool) (z : A) where
+  last-at : (x : A) (xs : List A) → lastOf x xs ≡ getD (x ∷ xs) (length xs) z
+  last-at x [] = refl
+  last-at x (y ∷ xs) = last-at y xs
 
-pub no-ends : (xs : List Float) → length xs ≡ 0 → true ≡ endsMeet eq xs
-unfolding endsMeet
-no-ends [] h = refl
-no-ends (x ∷ xs) h = absurd (omega arith)
+  no-ends : (xs : List A) → length xs ≡ 0 → true ≡ endsMeet test xs
+  unfolding endsMeet
+  no-ends [] h = refl
+  no-ends (x ∷ xs) h = absurd (omega arith)
 
-pub ends-are : (xs : List Float) → (length xs ≡ 0 → ⊥) → eq (getD xs (length xs - 1) nan) (getD xs 0 nan) ≡ endsMeet eq xs
-unfolding endsMeet
-ends-are [] h = absurd (h refl)
-ends-are (x ∷ xs) h = let e : length (x ∷ xs) - 1 ≡ length xs = omega arith in rw (e, last-at x xs)
+  ends-are : (xs : List A) → (length xs ≡ 0 → ⊥) → test (getD xs (length xs - 1) z) (getD xs 0 z) ≡ endsMeet test xs
+  unfolding endsMeet
+  ends-are [] h = absurd (h refl)
+  ends-are (x ∷ xs) h = let e : length (x ∷ xs) - 1 ≡ length xs = omega arith in rw (e, last-at x xs)
 
-module _ (counts : List ℕ) (x y z : List Float) (k : ℕ) (px : List Float) (px-is : px ≡ getD (pieces counts x) k []) (t : Bool) (t-is : t ≡ endsMeet eq px) where
-  x-meets : meetsAt counts x k ≡ t
-  x-meets = ap (endsMeet eq) (sym px-is) ∙ sym t-is
+module _ (r : Corners Vec3) (n : ℕ) (n-is : n ≡ length r) where
+  many : length (positions r) ≡ length r
+  many = length-map r (λ (c : Corner Vec3). c .at)
 
-  pub open-in-x : t ≡ false → false ≡ closesAt counts x y z k
-  unfolding closesAt
-  open-in-x e = sym (rw (x-meets ∙ e))
+  pub no-ends-in : n ≡ 0 → true ≡ endsMeet same (positions r)
+  no-ends-in h = no-ends same (none .at) (positions r) (let m = many in omega arith)
 
-  module _ (closed-x : t ≡ true) (py : List Float) (py-is : py ≡ getD (pieces counts y) k []) (t′ : Bool) (t′-is : t′ ≡ endsMeet eq py) where
-    y-meets : meetsAt counts y k ≡ t′
-    y-meets = ap (endsMeet eq) (sym py-is) ∙ sym t′-is
-
-    pub open-in-y : t′ ≡ false → false ≡ closesAt counts x y z k
-    unfolding closesAt
-    open-in-y e = sym (rw (x-meets ∙ closed-x, y-meets ∙ e))
-
-    pub closes-by-z : t′ ≡ true → (pz : List Float) → pz ≡ getD (pieces counts z) k [] → (r : Bool) → r ≡ endsMeet eq pz → r ≡ closesAt counts x y z k
-    unfolding closesAt
-    closes-by-z e pz pz-is r r-is = r-is ∙ ap (endsMeet eq) pz-is ∙ sym (rw (x-meets ∙ closed-x, y-meets ∙ e))
+  pub ends-in : (n ≡ 0 → ⊥) → (a b : Corner Vec3) → a ≡ getD r (n - 1) none → b ≡ getD r 0 none → same (a .at) (b .at) ≡ endsMeet same (positions r)
+  ends-in h a b ea eb =
+      let last : a .at ≡ getD (positions r) (length (positions r) - 1) (none .at) =
+      ap (λ (c : Corner Vec3). c .at) ea ∙ sym (List·getD-map (λ (c : Corner Vec3). c .at) r (n - 1) none)
+      ∙ ap (λ (k : ℕ). getD (positions r) (k - 1) (none .at)) (n-is ∙ sym many) in
+      let first : b .at ≡ getD (positions r) 0 (none .at) = ap (λ (c : Corner Vec3). c .at) eb ∙ sym (List·getD-map (λ (c : Corner Vec3). c .at) r 0 none) in
+      (λ i. same (last i) (first i)) ∙ ends-are same (none .at) (positions r) (λ e. h (n-is ∙ sym many ∙ e))
 
 -- ---- 8
 
-module _ (counts : List ℕ) (ws : List ℤ) (x y z : List Float) where
+module _ (counts : List ℕ) (r : Corners Vec3) (ws : List ℤ) where
   module _ (k : ℕ) (t : Bool) (t-is : t ≡ wrapsAt ws k) where
-    pub not-wrapping : t ≡ false → false ≡ openAt counts ws x y z k
+    pub not-wrapping : t ≡ false → false ≡ openAt (pieces counts r) ws k
     unfolding openAt
     not-wrapping e = sym (rw (sym t-is ∙ e))
 
-    pub open-unless-closed : t ≡ true → (c : Bool) → c ≡ closesAt counts x y z k → not c ≡ openAt counts ws x y z k
+    pub open-unless-closed : t ≡ true → (l : Corners Vec3) → l ≡ getD (pieces counts r) k [] → (c : Bool) → c ≡ endsMeet same (positions l)
+        → not c ≡ openAt (pieces counts r) ws k
     unfolding openAt
-    open-unless-closed e c c-is = ap not c-is ∙ sym (rw (sym t-is ∙ e))
+    open-unless-closed e l l-is c c-is = ap not (c-is ∙ ap (λ (m : Corners Vec3). endsMeet same (positions m)) l-is) ∙ sym (rw (sym t-is ∙ e))
 
   abbrev pub Opening : ℕ → Type 0
-  Opening k = Seeking (openAt counts ws x y z) (length counts) k
+  Opening k = Seeking (openAt (pieces counts r) ws) (length counts) k
 
-  pub opening-found : (k : ℕ) → Opening k → k < length counts → openAt counts ws x y z k ≡ true → at k ≡ openAmong counts ws x y z
-  unfolding openAmong
-  opening-found k o h e = seek-found o h e
+  many-pieces : length counts ≡ length (pieces counts r)
+  many-pieces = sym (length-pieces counts r)
 
-  pub opening-end : (k : ℕ) → Opening k → length counts ≤ k → nowhere ≡ openAmong counts ws x y z
+  pub opening-found : (k : ℕ) → Opening k → k < length counts → openAt (pieces counts r) ws k ≡ true → at k ≡ openAmong (pieces counts r) ws
   unfolding openAmong
-  opening-end k o h = seek-end o h
+  opening-found k o h e = seek-found o h e ∙ ap (λ (n : ℕ). firstWhere n (openAt (pieces counts r) ws)) many-pieces
+
+  pub opening-end : (k : ℕ) → Opening k → length counts ≤ k → nowhere ≡ openAmong (pieces counts r) ws
+  unfolding openAmong
+  opening-end k o h = seek-end o h ∙ ap (λ (n : ℕ). firstWhere n (openAt (pieces counts r) ws)) many-pieces
 
 -- ---- how many wrap
 

@@ -1,3 +1,3 @@
 pub mod Head
-pub mod Wraps
+pub mod Loops
 pub mod Refusals

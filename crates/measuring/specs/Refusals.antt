@@ -1,11 +1,12 @@
--- 01, "The face record": the refusals 8 to 11, said of parallel lists that hold the loops and of the list of their wraps.
+-- 01, "The face record": the refusals 8 to 11, said of the loops of a face and of the list of their wraps.
 use Prim.Native.Nat.{ℕ, zero, suc}
 use mathlib.Core.Bool.{Bool, not, cond, _&&_}
 use mathlib.Core.List.{List, []}
 use lib.IntN.{ℤ, pos}
-use lib.Ieee.{Float, eq}
 use lib.ListN.{length, getD}
-use Rattle.lists.specs.Pieces.{pieces}
+use Rattle.numbers.specs.Position.{same}
+use Rattle.numbers.specs.declared.math.Vec3.{Vec3}
+use Rattle.tables.specs.Corners.{Corners, positions}
 use Rattle.loops.specs.Rings.{endsMeet}
 use Rattle.bands.specs.Given.{wraps, only}
 use Rattle.records.specs.Bytes.{_<?_, _≤?_, _=?_}
@@ -16,19 +17,13 @@ use Rattle.records.specs.Refusals.{Place, nowhere, at, when, firstWhere}
 unfoldable pub wrapsAt : List ℤ → ℕ → Bool
 wrapsAt ws k = wraps (getD ws k (pos 0))
 
--- whether the last of loop k is its first, in one coordinate, compared as numbers
-abbrev pub meetsAt : List ℕ → List Float → ℕ → Bool
-meetsAt counts xs k = endsMeet eq (getD (pieces counts xs) k [])
-
-unfoldable pub closesAt : List ℕ → (x y z : List Float) → ℕ → Bool
-closesAt counts x y z k = meetsAt counts x k && meetsAt counts y k && meetsAt counts z k
-
-unfoldable pub openAt : List ℕ → List ℤ → (x y z : List Float) → ℕ → Bool
-openAt counts ws x y z k = wrapsAt ws k && not (closesAt counts x y z k)
+-- whether loop k wraps and its "last position is not its first, compared as numbers"; past the last loop there is one of no corners
+unfoldable pub openAt : List (Corners Vec3) → List ℤ → ℕ → Bool
+openAt ls ws k = wrapsAt ws k && not (endsMeet same (positions (getD ls k [])))
 
 -- "8, loop: first wrapping loop whose last position is not its first, compared as numbers"
-unfoldable pub openAmong : List ℕ → List ℤ → (x y z : List Float) → Place
-openAmong counts ws x y z = firstWhere (length counts) (openAt counts ws x y z)
+unfoldable pub openAmong : List (Corners Vec3) → List ℤ → Place
+openAmong ls ws = firstWhere (length ls) (openAt ls ws)
 
 -- how many loops wrap
 unfoldable pub wrappingOf : List ℤ → ℕ

@@ -1,6 +1,5 @@
-// From a face record that the check lets pass to what it says: its surface, its tolerances, the
-// wraps of its loops, and the refusals 8 to 11.
+// From a face record that the check lets pass to what it says: its surface, its tolerances, a record
+// of each of its loops, and the refusals 8 to 11.
 pub mod head;
-pub mod piece;
+pub mod measure;
 pub mod refusals;
-pub mod wraps;

@@ -1,14 +1,19 @@
-// The refusals 8 to 11, from the wraps of the loops, for 8 with their positions.
+// The refusals 8 to 11, from the wraps of the loops, for 8 with the loops themselves.
 ghost use mathlib.Core.Path.{_≡_};
 ghost use mathlib.Core.Bool.{cond};
-ghost use lib.Ieee.{eq};
 ghost use lib.ListN.{length};
+ghost use Rattle.numbers.specs.Position.{same};
+ghost use Rattle.lists.specs.Pieces.{pieces};
+ghost use Rattle.tables.specs.Corners.{positions};
+ghost use Rattle.tables.specs.Rows.{rows};
 ghost use Rattle.loops.specs.Rings.{endsMeet};
 ghost use Rattle.records.specs.Answers.{placeOf};
 ghost use Rattle.records.specs.Refusals.{firstWhere};
-ghost use Rattle.measuring.specs.Refusals.{wrapsAt, closesAt, openAt, openAmong, wrappingOf, lastWhere, oneAmong, manyAmong, openKind};
-use super::piece::piece_of;
+ghost use Rattle.measuring.specs.Refusals.{wrapsAt, openAt, openAmong, wrappingOf, lastWhere, oneAmong, manyAmong, openKind};
 use records::check::Place;
+use tables::corners::corner_at;
+use tables::corners::count;
+use tables::pieces::loop_of;
 
 // Whether loop k wraps; past the last one none does.
 fn wraps_at(wraps: &[i32], k: usize) -> bool
@@ -20,46 +25,38 @@ fn wraps_at(wraps: &[i32], k: usize) -> bool
     false
 }
 
-// Whether the last real is the first, as numbers, so that 0.0 and -0.0 are.
-fn ends_meet(xs: &[f64]) -> bool
-    ensures { λ r. ⌜ r ≡ endsMeet eq (now (xs .entry)) ⌝ }
+// Whether a loop ends where it begins.
+fn ends_meet(t: &[f64]) -> bool
+    ensures { λ r. ⌜ r ≡ endsMeet same (positions (rows (now (t .entry)))) ⌝ }
 {
-    let n = xs.len();
+    let n = count(t);
     if n == 0 {
         return true;
     }
-    xs[n - 1] == xs[0]
-}
-
-// Whether loop k ends where it begins.
-fn closes_at(x: &[f64], y: &[f64], z: &[f64], counts: &[usize], k: usize) -> bool
-    ensures { λ r. ⌜ r ≡ closesAt (now (counts .entry)) (now (x .entry)) (now (y .entry)) (now (z .entry)) k ⌝ }
-{
-    if ends_meet(piece_of(x, counts, k)) {
-        if ends_meet(piece_of(y, counts, k)) {
-            return ends_meet(piece_of(z, counts, k));
-        }
-    }
-    false
+    let last = corner_at(t, n - 1);
+    let first = corner_at(t, 0);
+    let end = last.at;
+    let begin = first.at;
+    end.same(begin)
 }
 
 // Whether loop k wraps and is open.
-fn open_at(x: &[f64], y: &[f64], z: &[f64], counts: &[usize], wraps: &[i32], k: usize) -> bool
-    ensures { λ r. ⌜ r ≡ openAt (now (counts .entry)) (now (wraps .entry)) (now (x .entry)) (now (y .entry)) (now (z .entry)) k ⌝ }
+fn open_at(t: &[f64], counts: &[usize], wraps: &[i32], k: usize) -> bool
+    ensures { λ r. ⌜ r ≡ openAt (pieces (now (counts .entry)) (rows (now (t .entry)))) (now (wraps .entry)) k ⌝ }
 {
     if wraps_at(wraps, k) {
-        return !closes_at(x, y, z, counts, k);
+        return !ends_meet(loop_of(t, counts, k));
     }
     false
 }
 
 // 8
-pub fn open_ring(x: &[f64], y: &[f64], z: &[f64], counts: &[usize], wraps: &[i32]) -> Place
-    ensures { λ r. ⌜ placeOf r ≡ openAmong (now (counts .entry)) (now (wraps .entry)) (now (x .entry)) (now (y .entry)) (now (z .entry)) ⌝ }
+pub fn open_ring(t: &[f64], counts: &[usize], wraps: &[i32]) -> Place
+    ensures { λ r. ⌜ placeOf r ≡ openAmong (pieces (now (counts .entry)) (rows (now (t .entry)))) (now (wraps .entry)) ⌝ }
 {
     let mut k = 0;
     while k < counts.len() {
-        if open_at(x, y, z, counts, wraps, k) {
+        if open_at(t, counts, wraps, k) {
             return Place::At(k);
         }
         k += 1;

@@ -1,18 +1,23 @@
--- Filling lent slices from a record: loops over counts and over reals that stand a fixed step apart.
+-- Filling lent slices from a record: loops over counts, over reals that stand a fixed step apart, and over corners.
 use mathlib.Core.Path.{_≡_, refl, sym, ap, _∙_}
 use mathlib.Core.Bool.{Bool, true, false, _&&_, cond}
 use mathlib.Core.List.{List, [], _∷_, _++_, map}
 use Prim.Native.Nat.{ℕ, zero, suc, _+_, _-_, _*_, _≤_, _<_}
 use native.Mathlib.Nat.{mul-le-mul-left}
 use native.Mathlib.Omega.{arith}
-use lib.ListN.{length, getD, set}
+use lib.ListN.{length, getD, set, length-map, List·getD-map}
 use lib.Seq.{take-all}
 use lib.Ieee.{Float, nan}
 use Rattle.lists.proofs.Filling as lists
 use Rattle.records.specs.Bytes.{u16At, realAt, uvAt, xyzAt, rowAt}
-use Rattle.records.specs.Face.{headerSize, headReals, loops, count, counts, head, points, realPlace, parameters, positions}
-use Rattle.records.specs.Lent.{front, uOf, vOf, xOf, yOf, zOf}
-use Rattle.records.proofs.Rows.{length-rowAt, getD-rowAt, column}
+use Rattle.numbers.specs.declared.math.Vec2.{Vec2}
+use Rattle.numbers.specs.declared.math.Vec3.{Vec3}
+use Rattle.tables.specs.Corners.{Corner}
+use Rattle.tables.specs.Rows.{rows, none}
+use Rattle.tables.proofs.CornersFrom.{length-from, corner-from}
+use Rattle.records.specs.Face.{headerSize, headReals, loops, count, counts, head, points, realPlace, parameters, positions, uOf, vOf, cornersIn, cornerAt}
+use Rattle.records.specs.Lent.{front, CornersRoom}
+use Rattle.records.proofs.Rows.{length-rowAt, getD-rowAt}
 
 -- ---- a loop that fills a slice from its front
 
@@ -104,22 +109,83 @@ module _ (s : List ℕ) where
   unfolding head
   column-head = let e : realPlace s 0 + 0 ≡ realPlace s 0 = omega arith in rw e
 
-  pub column-u : rowAt realAt 16 s (realPlace s headReals + 0) (points s) ≡ map uOf (parameters s)
-  unfolding parameters uvAt
-  column-u = column uvAt 16 s uOf 0 (λ p. let e : p + 0 ≡ p = omega arith in rw e) (realPlace s headReals) (points s)
+-- ---- the corners
 
-  pub column-v : rowAt realAt 16 s (realPlace s headReals + 8) (points s) ≡ map vOf (parameters s)
-  unfolding parameters uvAt
-  column-v = column uvAt 16 s vOf 8 (λ p. refl) (realPlace s headReals) (points s)
+module _ (s : List ℕ) where
+  length-parameters : length (parameters s) ≡ points s
+  unfolding parameters
+  length-parameters = length-rowAt uvAt 16 s (realPlace s headReals) (points s)
 
-  pub column-x : rowAt realAt 24 s (realPlace s (headReals + 2 * points s) + 0) (points s) ≡ map xOf (positions s)
-  unfolding positions xyzAt
-  column-x = column xyzAt 24 s xOf 0 (λ p. let e : p + 0 ≡ p = omega arith in rw e) (realPlace s (headReals + 2 * points s)) (points s)
+  length-positions : length (positions s) ≡ points s
+  unfolding positions
+  length-positions = length-rowAt xyzAt 24 s (realPlace s (headReals + 2 * points s)) (points s)
 
-  pub column-y : rowAt realAt 24 s (realPlace s (headReals + 2 * points s) + 8) (points s) ≡ map yOf (positions s)
-  unfolding positions xyzAt
-  column-y = column xyzAt 24 s yOf 8 (λ p. refl) (realPlace s (headReals + 2 * points s)) (points s)
+  us-long : length (map uOf (parameters s)) ≡ length (positions s)
+  us-long = length-map (parameters s) uOf ∙ length-parameters ∙ sym length-positions
 
-  pub column-z : rowAt realAt 24 s (realPlace s (headReals + 2 * points s) + 16) (points s) ≡ map zOf (positions s)
-  unfolding positions xyzAt
-  column-z = column xyzAt 24 s zOf 16 (λ p. refl) (realPlace s (headReals + 2 * points s)) (points s)
+  vs-long : length (map vOf (parameters s)) ≡ length (positions s)
+  vs-long = length-map (parameters s) vOf ∙ length-parameters ∙ sym length-positions
+
+  pub length-corners : length (cornersIn s) ≡ points s
+  unfolding cornersIn
+  length-corners = length-from (map uOf (parameters s)) (map vOf (parameters s)) (positions s) us-long vs-long ∙ length-positions
+
+  parameter-at : (i : ℕ) → i < points s → getD (parameters s) i (record { u = nan; v = nan }) ≡ uvAt s (realPlace s headReals + 16 * i)
+  unfolding parameters
+  parameter-at i h = getD-rowAt uvAt 16 s (realPlace s headReals) (points s) i (record { u = nan; v = nan }) h
+
+  position-at : (i : ℕ) → i < points s → getD (positions s) i (none .at) ≡ xyzAt s (realPlace s (headReals + 2 * points s) + 24 * i)
+  unfolding positions
+  position-at i h = getD-rowAt xyzAt 24 s (realPlace s (headReals + 2 * points s)) (points s) i (none .at) h
+
+  corner-is : (i : ℕ) → i < points s → getD (cornersIn s) i none ≡ cornerAt s (realPlace s headReals + 16 * i) (realPlace s (headReals + 2 * points s) + 24 * i)
+  unfolding cornersIn cornerAt
+  corner-is i h =
+      let away : Vec2 = record { u = nan; v = nan } in
+      let n = length-positions in
+      let u-is : getD (map uOf (parameters s)) i nan ≡ uvAt s (realPlace s headReals + 16 * i) .u = List·getD-map uOf (parameters s) i away ∙ ap uOf (parameter-at i h) in
+      let v-is : getD (map vOf (parameters s)) i nan ≡ uvAt s (realPlace s headReals + 16 * i) .v = List·getD-map vOf (parameters s) i away ∙ ap vOf (parameter-at i h) in
+      corner-from (map uOf (parameters s)) (map vOf (parameters s)) (positions s) i none us-long vs-long (omega arith)
+      ∙ (λ j. record { u = u-is j; v = v-is j; at = position-at i h j })
+
+pub corner-read : (s : List ℕ) (p q : ℕ) (u v x y z : Float) → u ≡ realAt s p → v ≡ realAt s (p + 8) → x ≡ realAt s q → y ≡ realAt s (q + 8) → z ≡ realAt s (q + 16)
+    → record { u = u; v = v; at = record { x = x; y = y; z = z } } ≡ cornerAt s p q
+unfolding cornerAt uvAt xyzAt
+corner-read s p q u v x y z eu ev ex ey ez = λ i. record { u = eu i; v = ev i; at = record { x = ex i; y = ey i; z = ez i } }
+
+-- i corners are read: p is where the parameters begin, and q where the positions do
+pub record Reading (s : List ℕ) (n p q : ℕ) (t₀ t : List Float) (i : ℕ) : Type 0 where
+  pub room : CornersRoom s n t₀
+  pub p-is : p ≡ realPlace s headReals
+  pub q-is : q ≡ p + 16 * n
+  pub long : length t ≡ length t₀
+  pub filling : Filling (cornersIn s) (rows t₀) (rows t) i
+
+module _ {s : List ℕ} {n p q : ℕ} {t₀ : List Float} where
+  pub reading-start : CornersRoom s n t₀ → p ≡ realPlace s headReals → q ≡ p + 16 * n → Reading s n p q t₀ t₀ 0
+  reading-start w e f =
+      let l = length-corners s in
+      let m = w .many in
+      let r = w .room in
+      record { room = w; p-is = e; q-is = f; long = refl; filling = filling-start (omega arith) }
+
+  module _ {t : List Float} {i : ℕ} (r : Reading s n p q t₀ t i) where
+    pub reading-inside : i < n → (p + 16 * i + 16 ≤ length s) × (q + 24 * i + 24 ≤ length s)
+    reading-inside h =
+        let m = r .room .many in
+        let l = r .room .there in
+        let e = r .p-is in
+        let f = r .q-is in
+        (omega arith, omega arith)
+
+    pub reading-turn : {t′ : List Float} {c : Corner Vec3} → i < n → c ≡ cornerAt s (p + 16 * i) (q + 24 * i) → length t′ ≡ length t → rows t′ ≡ set (rows t) i c
+        → Reading s n p q t₀ t′ (i + 1)
+    reading-turn {t′} {c} h e l u =
+        let m = r .room .many in
+        let k = length-corners s in
+        let at : q ≡ realPlace s (headReals + 2 * points s) = let a = r .p-is in let b = r .q-is in omega arith in
+        let is : c ≡ getD (cornersIn s) i none = e ∙ (λ j. cornerAt s (r .p-is j + 16 * i) (at j + 24 * i)) ∙ sym (corner-is s i (omega arith)) in
+        record { room = r .room; p-is = r .p-is; q-is = r .q-is; long = l ∙ r .long; filling = rw u (filling-turn (r .filling) none (omega arith) is) }
+
+    pub reading-end : n ≤ i → rows t ≡ front (cornersIn s) (rows t₀)
+    reading-end h = let m = r .room .many in let k = length-corners s in filling-end (r .filling) (omega arith)

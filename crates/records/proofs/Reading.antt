@@ -10,9 +10,10 @@ use borrow.Author.Tests.{le-leb, lt-leb, leb-true, leb-false, not-true, not-fals
 use Rattle.records.specs.declared.read.Read.{Read}
 use Rattle.records.specs.declared.read.Read.the-variants.{Count, Refused}
 use Rattle.records.specs.Bytes.{_≤?_, realAt, rowAt}
-use Rattle.records.specs.Face.{headerSize, headReals, loops, counts, head, points, realPlace, needed, parameters, positions}
-use Rattle.records.specs.Lent.{front, filledIf, readIf, countsThere, countsFit, headFits, pointsFit, least5, uOf, vOf, xOf, yOf, zOf, ReadInto, PointsRoom, PointsIf, PointsFilled, CountsRead, HeadRead, PointsRead}
-use Rattle.records.proofs.Columns.{length-counts, length-head, column-head, column-u, column-v, column-x, column-y, column-z}
+use Rattle.records.specs.Face.{headerSize, headReals, loops, counts, head, points, realPlace, needed, cornersIn}
+use Rattle.tables.specs.Rows.{rows}
+use Rattle.records.specs.Lent.{front, filledIf, readIf, countsThere, countsFit, headFits, pointsFit, ReadInto, CornersRoom, CountsRead, HeadRead, CornersRead}
+use Rattle.records.proofs.Columns.{length-counts, length-head, column-head, length-corners}
 
 -- ---- one slice
 
@@ -87,71 +88,36 @@ module _ (s : List ℕ) (d : List Float) where
   head-read e h r is =
       filled (rw (le-leb (realPlace s headReals) (length s) (omega arith), le-leb headReals (length d) r)) (sym (length-head s)) is
 
--- ---- r is the shortest of some slices, as the code finds it
-
-pub has-room : {n r m : ℕ} → r ≡ m → n ≤ r → n ≤ m
-has-room e h = omega arith
-
-pub no-room : {n r m : ℕ} → r ≡ m → r < n → m < n
-no-room e h = omega arith
-
 -- the column that the code reads, with p its place
 pub head-filled : (s : List ℕ) {p : ℕ} → p ≡ realPlace s 0 → (d : List Float) {d′ : List Float} → d′ ≡ front (rowAt realAt 8 s (p + 0) headReals) d → d′ ≡ front (head s) d
 head-filled s {p} e d h =
     let c : rowAt realAt 8 s (p + 0) headReals ≡ head s = rw e (column-head s) in
     h ∙ ap (λ (l : List Float). front l d) c
 
--- ---- points
+-- ---- corners
 
-abbrev room : (u v x y z : List Float) → ℕ
-room u v x y z = least5 (length u) (length v) (length x) (length y) (length z)
-
-module _ {s : List ℕ} {u v x y z : List Float} where
-  all-kept : pointsFit s (room u v x y z) ≡ false → PointsRead s u v x y z u v x y z Refused
-  unfolding readIf filledIf
-  all-kept e = record { answer = rw e; columns = record { u-is = rw e; v-is = rw e; x-is = rw e; y-is = rw e; z-is = rw e } }
-
-  points-short : length s < needed s → PointsRead s u v x y z u v x y z Refused
+module _ (s : List ℕ) (t : List Float) where
+  corners-short : length s < needed s → CornersRead s t t Refused
   unfolding pointsFit
-  points-short h = all-kept (rw (lt-leb (needed s) (length s) h))
+  corners-short h = kept (rw (lt-leb (needed s) (length s) h))
 
-  pub points-gone : countsThere s ≡ false → PointsRead s u v x y z u v x y z Refused
-  points-gone e = let h = gone-short s e in points-short (omega arith)
+  pub corners-gone : countsThere s ≡ false → CornersRead s t t Refused
+  corners-gone e = let h = gone-short s e in corners-short (omega arith)
 
-  pub no-points : {p : ℕ} → p ≡ needed s → length s < p → PointsRead s u v x y z u v x y z Refused
-  no-points e h = points-short (omega arith)
+  pub no-corners : {p : ℕ} → p ≡ needed s → length s < p → CornersRead s t t Refused
+  no-corners e h = corners-short (omega arith)
 
-  pub no-points-room : {n : ℕ} → n ≡ points s → room u v x y z < n → PointsRead s u v x y z u v x y z Refused
+  module _ {n m : ℕ} (e : n ≡ points s) (c : m ≡ length (rows t)) where
+    pub no-corners-room : m < n → CornersRead s t t Refused
+    unfolding pointsFit
+    no-corners-room h = kept (and-right (needed s ≤? length s) _ (lt-leb (points s) (length (rows t)) (omega arith)))
+
+    pub corners-room : {p : ℕ} → p ≡ needed s → p ≤ length s → n ≤ m → CornersRoom s n t
+    corners-room q h r = record { many = e; there = omega arith; room = omega arith }
+
+  pub corners-read : {n : ℕ} (t′ : List Float) → CornersRoom s n t → rows t′ ≡ front (cornersIn s) (rows t) → CornersRead s t t′ (Count n)
   unfolding pointsFit
-  no-points-room e h = all-kept (and-right (needed s ≤? length s) _ (lt-leb (points s) (room u v x y z) (omega arith)))
-
-  pub points-read : {n : ℕ} → PointsRoom s n u v x y z → {u′ v′ x′ y′ z′ : List Float} → PointsFilled s u v x y z u′ v′ x′ y′ z′
-      → PointsRead s u v x y z u′ v′ x′ y′ z′ (Count n)
-  unfolding pointsFit readIf
-  points-read w f =
-      let fits : pointsFit s (room u v x y z) ≡ true = rw (le-leb (needed s) (length s) (w .there), le-leb (points s) (room u v x y z) (rw (w .many) at (w .room))) in
-      record { answer = rw (fits, w .many); columns = rw fits f }
-
-renamed : (d : List Float) {d′ w w′ : List Float} → d′ ≡ front w d → w ≡ w′ → d′ ≡ filledIf true w′ d
-unfolding filledIf
-renamed d e f = e ∙ ap (λ (l : List Float). front l d) f
-
--- the columns that the code reads, with p and q the places of the parameters and the positions
-module _ {s : List ℕ} {n p q : ℕ} (en : n ≡ points s) (ep : p ≡ realPlace s headReals) (eq : q ≡ p + 16 * n) {u v x y z u′ v′ x′ y′ z′ : List Float} where
-  pub points-filled : u′ ≡ front (rowAt realAt 16 s (p + 0) n) u → v′ ≡ front (rowAt realAt 16 s (p + 8) n) v
-      → x′ ≡ front (rowAt realAt 24 s (q + 0) n) x → y′ ≡ front (rowAt realAt 24 s (q + 8) n) y → z′ ≡ front (rowAt realAt 24 s (q + 16) n) z
-      → PointsFilled s u v x y z u′ v′ x′ y′ z′
-  points-filled eu ev ex ey ez =
-      let place : q ≡ realPlace s (headReals + 2 * points s) = omega arith in
-      let cu : rowAt realAt 16 s (p + 0) n ≡ map uOf (parameters s) = rw (ep, en) (column-u s) in
-      let cv : rowAt realAt 16 s (p + 8) n ≡ map vOf (parameters s) = rw (ep, en) (column-v s) in
-      let cx : rowAt realAt 24 s (q + 0) n ≡ map xOf (positions s) = rw (place, en) (column-x s) in
-      let cy : rowAt realAt 24 s (q + 8) n ≡ map yOf (positions s) = rw (place, en) (column-y s) in
-      let cz : rowAt realAt 24 s (q + 16) n ≡ map zOf (positions s) = rw (place, en) (column-z s) in
-      record {
-        u-is = renamed u eu cu;
-        v-is = renamed v ev cv;
-        x-is = renamed x ex cx;
-        y-is = renamed y ey cy;
-        z-is = renamed z ez cz;
-      }
+  corners-read t′ w is =
+      let m = w .many in
+      let r = w .room in
+      filled (rw (le-leb (needed s) (length s) (w .there), le-leb (points s) (length (rows t)) (omega arith))) (m ∙ sym (length-corners s)) is

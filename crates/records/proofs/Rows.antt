@@ -1,11 +1,10 @@
--- Things that stand in a row of bytes: how many there are, which is where, what holds of each; and a coordinate of points in a row.
+-- Things that stand in a row of bytes: how many there are, which is where, what holds of each.
 use mathlib.Core.Path.{_≡_, refl, sym, ap, _∙_}
-use mathlib.Core.List.{List, [], _∷_, map}
+use mathlib.Core.List.{List}
 use Prim.Native.Nat.{ℕ, zero, suc, _+_, _*_, _<_}
 use native.Mathlib.Omega.{arith}
 use lib.ListN.{length, getD}
-use lib.Ieee.{Float}
-use Rattle.records.specs.Bytes.{realAt, rowAt}
+use Rattle.records.specs.Bytes.{rowAt}
 use Rattle.records.specs.Result.{All, none, and}
 
 module _ {A : Type 0} (one : List ℕ → ℕ → A) (w : ℕ) (s : List ℕ) where
@@ -27,11 +26,3 @@ module _ {A : Type 0} (one : List ℕ → ℕ → A) (w : ℕ) (s : List ℕ) wh
       let e : p + w * 0 ≡ p = omega arith in
       and (rw e at (h 0 (omega arith)))
       (all-rowAt P (p + w) n (λ j l. let f : p + w * suc j ≡ p + w + w * j = omega arith in rw f at (h (suc j) (omega arith))))
-
-  -- a coordinate that stands k bytes behind the begin of each thing
-  pub column : (f : A → Float) (k : ℕ) → ((p : ℕ) → realAt s (p + k) ≡ f (one s p)) → (p n : ℕ) → rowAt realAt w s (p + k) n ≡ map f (rowAt one w s p n)
-  unfolding rowAt
-  column f k h p zero = refl
-  column f k h p (suc n) =
-      let e : p + k + w ≡ p + w + k = omega arith in
-      rw (e, h p) (ap (λ (l : List Float). f (one s p) ∷ l) (column f k h (p + w) n))

@@ -1,10 +1,11 @@
 -- 01, "The face record": where everything stands in it. Bytes past the end of a record count as 0; the refusals see to it that none is used.
 use Prim.Native.Nat.{ℕ, zero, suc, _+_, _*_}
-use mathlib.Core.List.{List}
+use mathlib.Core.List.{List, map}
 use lib.Ieee.{Float}
 use Rattle.lists.specs.Pieces.{pieces}
 use Rattle.numbers.specs.declared.math.Vec2.{Vec2}
 use Rattle.numbers.specs.declared.math.Vec3.{Vec3}
+use Rattle.tables.specs.Corners.{Corner, Corners, cornersFrom}
 use Rattle.records.specs.Bytes.{byteAt, u16At, realAt, uvAt, xyzAt, rowAt}
 
 -- "Byte 0 version (1), 1 kind (0 plane, 1 cylinder, 2 cone, 3 sphere, 4 torus), 2 loops L (0 to 16), 3 same sense (0 or 1), 4 minimum segments (1 to 64)."
@@ -73,3 +74,17 @@ loopParameters s = pieces (counts s) (parameters s)
 
 unfoldable pub loopPositions : List ℕ → List (List Vec3)
 loopPositions s = pieces (counts s) (positions s)
+
+abbrev pub uOf : Vec2 → Float
+uOf p = p .u
+
+abbrev pub vOf : Vec2 → Float
+vOf p = p .v
+
+-- "Then all (u, v), then all (x, y, z).": the corners of all loops
+unfoldable pub cornersIn : List ℕ → Corners Vec3
+cornersIn s = cornersFrom (map uOf (parameters s)) (map vOf (parameters s)) (positions s)
+
+-- the corner whose parameters stand at p and whose position stands at q
+unfoldable pub cornerAt : List ℕ → ℕ → ℕ → Corner Vec3
+cornerAt s p q = record { u = uvAt s p .u; v = uvAt s p .v; at = xyzAt s q }

@@ -1,16 +1,15 @@
 -- What reading and writing answer, and what they leave in lent slices: where something lent is too short, nothing is written.
 use mathlib.Core.Path.{_≡_}
-use mathlib.Core.Bool.{Bool, true, _&&_, cond}
-use mathlib.Core.List.{List, _++_, map}
-use Prim.Native.Nat.{ℕ, _+_, _*_, min, _≤_}
+use mathlib.Core.Bool.{Bool, _&&_, cond}
+use mathlib.Core.List.{List, _++_}
+use Prim.Native.Nat.{ℕ, _+_, _*_, _≤_}
 use lib.ListN.{length, drop}
 use lib.Ieee.{Float}
-use Rattle.numbers.specs.declared.math.Vec2.{Vec2}
-use Rattle.numbers.specs.declared.math.Vec3.{Vec3}
+use Rattle.tables.specs.Rows.{rows}
 use Rattle.records.specs.declared.read.Read.{Read}
 use Rattle.records.specs.declared.read.Read.the-variants.{Count, Refused}
 use Rattle.records.specs.Bytes.{_≤?_}
-use Rattle.records.specs.Face.{headerSize, headReals, loops, counts, head, points, realPlace, needed, parameters, positions}
+use Rattle.records.specs.Face.{headerSize, headReals, loops, counts, head, points, realPlace, needed, cornersIn}
 
 -- w at the front of d, the rest of d as it was
 abbrev pub front : {A : Type 0} → List A → List A → List A
@@ -42,41 +41,11 @@ pub record ReadInto {A : Type 0} (fits : Bool) (w d d′ : List A) (r : Read) : 
   pub answer : r ≡ readIf fits (length w)
   pub is : d′ ≡ filledIf fits w d
 
--- the shortest of five slices
-abbrev pub least5 : ℕ → ℕ → ℕ → ℕ → ℕ → ℕ
-least5 a b c d e = min a (min b (min c (min d e)))
-
-abbrev pub uOf : Vec2 → Float
-uOf p = p .u
-
-abbrev pub vOf : Vec2 → Float
-vOf p = p .v
-
-abbrev pub xOf : Vec3 → Float
-xOf p = p .x
-
-abbrev pub yOf : Vec3 → Float
-yOf p = p .y
-
-abbrev pub zOf : Vec3 → Float
-zOf p = p .z
-
 -- the points of s are there, n of them, and fit
-pub record PointsRoom (s : List ℕ) (n : ℕ) (u v x y z : List Float) : Type 0 where
+pub record CornersRoom (s : List ℕ) (n : ℕ) (t : List Float) : Type 0 where
   pub many : n ≡ points s
   pub there : needed s ≤ length s
-  pub room : n ≤ least5 (length u) (length v) (length x) (length y) (length z)
-
--- the columns of the points of s, in five slices that were u, v, x, y, z
-pub record PointsIf (fits : Bool) (s : List ℕ) (u v x y z u′ v′ x′ y′ z′ : List Float) : Type 0 where
-  pub u-is : u′ ≡ filledIf fits (map uOf (parameters s)) u
-  pub v-is : v′ ≡ filledIf fits (map vOf (parameters s)) v
-  pub x-is : x′ ≡ filledIf fits (map xOf (positions s)) x
-  pub y-is : y′ ≡ filledIf fits (map yOf (positions s)) y
-  pub z-is : z′ ≡ filledIf fits (map zOf (positions s)) z
-
-abbrev pub PointsFilled : List ℕ → (u v x y z u′ v′ x′ y′ z′ : List Float) → Type 0
-PointsFilled = PointsIf true
+  pub room : n ≤ length (rows t)
 
 -- what each of the three reading functions answers and leaves
 
@@ -86,6 +55,5 @@ CountsRead s d = ReadInto (countsFit s (length d)) (counts s) d
 abbrev pub HeadRead : List ℕ → (d d′ : List Float) → Read → Type 0
 HeadRead s d = ReadInto (headFits s (length d)) (head s) d
 
-pub record PointsRead (s : List ℕ) (u v x y z u′ v′ x′ y′ z′ : List Float) (r : Read) : Type 0 where
-  pub answer : r ≡ readIf (pointsFit s (least5 (length u) (length v) (length x) (length y) (length z))) (points s)
-  pub columns : PointsIf (pointsFit s (least5 (length u) (length v) (length x) (length y) (length z))) s u v x y z u′ v′ x′ y′ z′
+abbrev pub CornersRead : List ℕ → (t t′ : List Float) → Read → Type 0
+CornersRead s t t′ = ReadInto (pointsFit s (length (rows t))) (cornersIn s) (rows t) (rows t′)

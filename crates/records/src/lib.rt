@@ -9,7 +9,6 @@ use numbers::bits;
 use numbers::bits::Real;
 
 pub mod check;
-pub mod lent;
 pub mod read;
 
 // Version 1: the sizes of a face record's parts, and its limits.

@@ -1,18 +1,22 @@
-// Reading a face record into lent slices. Nothing is checked here but that the record is long
+// Reading a face record into lent slices, its corners into a table. Nothing is checked here but that the record is long
 // enough for what its counts say and that the slices have room: where not, nothing is written.
 ghost use mathlib.Core.Path.{_≡_};
 ghost use Prim.Native.Nat.{_+_, _*_, _≤_};
 ghost use lib.ListN.{length, getD};
 ghost use Rattle.records.specs.Bytes.{realAt, rowAt};
-ghost use Rattle.records.specs.Face.{kind, sense, segments};
-ghost use Rattle.records.specs.Lent.{front, countsThere, CountsRead, HeadRead, PointsRead, PointsRoom, PointsFilled};
+ghost use Rattle.tables.specs.Rows.{rows, cornerOf};
+ghost use Rattle.records.specs.Face.{kind, sense, segments, cornersIn, cornerAt};
+ghost use Rattle.records.specs.Lent.{front, countsThere, CountsRead, HeadRead, CornersRead, CornersRoom};
 use super::HEAD_REALS;
 use super::HEADER_SIZE;
 use super::count_at;
-use super::lent::least5;
 use super::loops;
 use super::points;
 use super::real_at;
+use numbers::math::Vec3;
+use tables::corners::Corner;
+use tables::corners::count;
+use tables::corners::put_corner;
 
 // How many values were read, or that something lent was too short.
 pub enum Read {
@@ -105,40 +109,39 @@ pub fn read_head(face: &[u8], dst: &mut [f64]) -> Read
     Read::Count(HEAD_REALS)
 }
 
-// The columns of the points, where there is room for them.
-fn fill_points(
-    face: &[u8],
-    n: usize,
-    u: &mut [f64],
-    v: &mut [f64],
-    x: &mut [f64],
-    y: &mut [f64],
-    z: &mut [f64],
-)
-    requires { ⌜ PointsRoom (now face) n (now u) (now v) (now x) (now y) (now z) ⌝ }
-    ensures { λ _. ⌜ PointsFilled (now (face .entry)) (now (u .entry)) (now (v .entry)) (now (x .entry)) (now (y .entry)) (now (z .entry))
-        (now (u .exit)) (now (v .exit)) (now (x .exit)) (now (y .exit)) (now (z .exit)) ⌝ }
+// The corner whose parameters stand at p and whose position stands at q.
+fn corner_in(face: &[u8], p: usize, q: usize) -> Corner
+    requires { ⌜ (p + 16 ≤ length (now face)) × (q + 24 ≤ length (now face)) ⌝ }
+    ensures { λ r. ⌜ cornerOf r ≡ cornerAt (now (face .entry)) p q ⌝ }
+{
+    Corner {
+        u: real_at(face, p),
+        v: real_at(face, p + 8),
+        at: Vec3 {
+            x: real_at(face, q),
+            y: real_at(face, q + 8),
+            z: real_at(face, q + 16),
+        },
+    }
+}
+
+// The corners, where there is room for them.
+fn fill_corners(face: &[u8], n: usize, t: &mut [f64])
+    requires { ⌜ CornersRoom (now face) n (now t) ⌝ }
+    ensures { λ _. ⌜ rows (now (t .exit)) ≡ front (cornersIn (now (face .entry))) (rows (now (t .entry))) ⌝ }
 {
     let uv = HEADER_SIZE + 2 * loops(face) + 8 * HEAD_REALS;
     let xyz = uv + 16 * n;
-    read_column(face, uv, 0, 16, n, u);
-    read_column(face, uv, 8, 16, n, v);
-    read_column(face, xyz, 0, 24, n, x);
-    read_column(face, xyz, 8, 24, n, y);
-    read_column(face, xyz, 16, 24, n, z);
+    let mut i = 0;
+    while i < n {
+        put_corner(t, i, corner_in(face, uv + 16 * i, xyz + 24 * i));
+        i += 1;
+    }
 }
 
-// The parameters and positions of all points, in file order.
-pub fn read_points(
-    face: &[u8],
-    u: &mut [f64],
-    v: &mut [f64],
-    x: &mut [f64],
-    y: &mut [f64],
-    z: &mut [f64],
-) -> Read
-    ensures { λ r. ⌜ PointsRead (now (face .entry)) (now (u .entry)) (now (v .entry)) (now (x .entry)) (now (y .entry)) (now (z .entry))
-        (now (u .exit)) (now (v .exit)) (now (x .exit)) (now (y .exit)) (now (z .exit)) r ⌝ }
+// The corners of all loops in file order, a row each.
+pub fn read_corners(face: &[u8], t: &mut [f64]) -> Read
+    ensures { λ r. ⌜ CornersRead (now (face .entry)) (now (t .entry)) (now (t .exit)) r ⌝ }
 {
     if !counts_there(face) {
         return Read::Refused;
@@ -147,10 +150,9 @@ pub fn read_points(
     if face.len() < HEADER_SIZE + 2 * loops(face) + 8 * (HEAD_REALS + 5 * n) {
         return Read::Refused;
     }
-    let room = least5(u.len(), v.len(), x.len(), y.len(), z.len());
-    if room < n {
+    if count(t) < n {
         return Read::Refused;
     }
-    fill_points(face, n, u, v, x, y, z);
+    fill_corners(face, n, t);
     Read::Count(n)
 }

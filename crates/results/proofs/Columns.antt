@@ -1,57 +1,42 @@
--- Parallel slices as points.
+-- The columns of a table's rows as bytes.
 use mathlib.Core.Path.{_≡_, refl, sym, ap, _∙_}
-use mathlib.Core.List.{List, [], _∷_, map}
-use Prim.Native.Nat.{ℕ, zero, suc, _<_}
+use mathlib.Core.List.{List, [], _∷_, _++_, map, append-nil}
+use Prim.Native.Nat.{ℕ, _+_, _-_, _*_, _/_, _≤_, _<_}
 use native.Mathlib.Omega.{arith}
-use lib.ListN.{length, getD}
-use lib.Ieee.{Float, nan}
-use Rattle.numbers.specs.declared.math.Vec2.{Vec2}
+use lib.ListN.{length, getD, take, drop, length-take, length-drop}
+use lib.Seq.{drop-drop}
+use lib.Ieee.{Float}
 use Rattle.numbers.specs.declared.math.Vec3.{Vec3}
-use Rattle.results.specs.Written.{pairs, triples}
+use Rattle.records.specs.Bytes.{real, uv, xyz, row}
+use Rattle.records.proofs.RoundTrip.{codes-real, length-row}
+use Rattle.tables.specs.Corners.{Corner, Corners, uvOf, positions}
+use Rattle.tables.specs.Rows.{rows, realsOf, none}
+use Rattle.tables.proofs.Rows.{row-reals}
+use Rattle.results.specs.Written.{columnsOf}
 
-abbrev pub pair : Float → Float → Vec2
-pair a b = record { u = a; v = b }
+pub columns-wide : (from to : ℕ) → from ≤ to → to ≤ 5 → (c : Corner Vec3) → length (columnsOf from to c) ≡ 8 * (to - from)
+unfolding columnsOf realsOf
+columns-wide from to h k c =
+    let l = length-row codes-real (take (to - from) (drop from (realsOf c))) in
+    let m = length-take (to - from) (drop from (realsOf c)) in
+    let n = length-drop from (realsOf c) in
+    let f : length (realsOf c) ≡ 5 = refl in
+    omega arith
 
-abbrev pub triple : Float → Float → Float → Vec3
-triple a b c = record { x = a; y = b; z = c }
+pub columns-at : (t : List Float) (i from to a e : ℕ) → from ≤ to → to ≤ 5 → i < length t / 5 → a ≡ 5 * i + from → e ≡ 5 * i + to
+    → row real (take (e - a) (drop a t)) ≡ columnsOf from to (getD (rows t) i none)
+unfolding columnsOf
+columns-at t i from to a e h k l ea ee =
+    let n : e - a ≡ to - from = omega arith in
+    rw n (ap (λ (w : List Float). row real (take (to - from) w)) (ap (λ (j : ℕ). drop j t) ea ∙ sym (drop-drop from (5 * i) t))
+    ∙ ap (row real) (row-reals t i from (to - from) l (omega arith)))
 
-pub length-pairs : (u v : List Float) → length v ≡ length u → length (pairs u v) ≡ length u
-unfolding pairs
-length-pairs [] v e = refl
-length-pairs (a ∷ u) [] e = absurd (omega arith)
-length-pairs (a ∷ u) (b ∷ v) e = ap suc (length-pairs u v (omega arith))
+pub columns-uv : (r : Corners Vec3) → row (columnsOf 0 2) r ≡ row uv (map uvOf r)
+unfolding row columnsOf realsOf uv
+columns-uv [] = refl
+columns-uv (c ∷ r) = (λ i. (real (c .u) ++ append-nil (real (c .v)) i) ++ columns-uv r i)
 
-pub pairs-at : (u v : List Float) (i : ℕ) → length v ≡ length u → i < length u → getD (pairs u v) i (pair nan nan) ≡ pair (getD u i nan) (getD v i nan)
-unfolding pairs
-pairs-at [] v i e h = absurd (omega arith)
-pairs-at (a ∷ u) [] i e h = absurd (omega arith)
-pairs-at (a ∷ u) (b ∷ v) zero e h = refl
-pairs-at (a ∷ u) (b ∷ v) (suc i) e h = pairs-at u v i (omega arith) (omega arith)
-
-pub length-triples : (x y z : List Float) → length y ≡ length x → length z ≡ length x → length (triples x y z) ≡ length x
-unfolding triples
-length-triples [] y z e f = refl
-length-triples (a ∷ x) [] z e f = absurd (omega arith)
-length-triples (a ∷ x) (b ∷ y) [] e f = absurd (omega arith)
-length-triples (a ∷ x) (b ∷ y) (c ∷ z) e f = ap suc (length-triples x y z (omega arith) (omega arith))
-
-pub triples-at : (x y z : List Float) (i : ℕ) → length y ≡ length x → length z ≡ length x → i < length x
-    → getD (triples x y z) i (triple nan nan nan) ≡ triple (getD x i nan) (getD y i nan) (getD z i nan)
-unfolding triples
-triples-at [] y z i e f h = absurd (omega arith)
-triples-at (a ∷ x) [] z i e f h = absurd (omega arith)
-triples-at (a ∷ x) (b ∷ y) [] i e f h = absurd (omega arith)
-triples-at (a ∷ x) (b ∷ y) (c ∷ z) zero e f h = refl
-triples-at (a ∷ x) (b ∷ y) (c ∷ z) (suc i) e f h = triples-at x y z i (omega arith) (omega arith) (omega arith)
-
--- the columns of points give the points back
-pub pairs-of : {C : Type 0} (f : C → Vec2) (cs : List C) → pairs (map (λ (c : C). f c .u) cs) (map (λ (c : C). f c .v) cs) ≡ map f cs
-unfolding pairs
-pairs-of f [] = refl
-pairs-of f (c ∷ cs) = ap (λ (l : List Vec2). f c ∷ l) (pairs-of f cs)
-
-pub triples-of : {C : Type 0} (f : C → Vec3) (cs : List C)
-    → triples (map (λ (c : C). f c .x) cs) (map (λ (c : C). f c .y) cs) (map (λ (c : C). f c .z) cs) ≡ map f cs
-unfolding triples
-triples-of f [] = refl
-triples-of f (c ∷ cs) = ap (λ (l : List Vec3). f c ∷ l) (triples-of f cs)
+pub columns-xyz : (r : Corners Vec3) → row (columnsOf 2 5) r ≡ row xyz (positions r)
+unfolding row columnsOf realsOf xyz
+columns-xyz [] = refl
+columns-xyz (c ∷ r) = (λ i. (real (c .at .x) ++ (real (c .at .y) ++ append-nil (real (c .at .z)) i)) ++ columns-xyz r i)

@@ -1,4 +1,4 @@
--- What the writer was given is read back from its bytes; and the slices that hold the loops of a closed face give that face's record.
+-- What the writer was given is read back from its bytes; and the table that holds the loops of a closed face gives that face's record.
 use mathlib.Core.Path.{_≡_, refl, sym, ap, _∙_}
 use mathlib.Core.Bool.{Bool, true, false, _&&_, true≢false}
 use mathlib.Core.List.{List, [], _∷_, map}
@@ -7,14 +7,14 @@ use native.Mathlib.Omega.{arith}
 use lib.ListN.{length, take}
 use lib.Ieee.{Float}
 use borrow.Author.Tests.{ltb-true, leb-true}
-use Rattle.numbers.specs.declared.math.Vec2.{Vec2}
 use Rattle.numbers.specs.declared.math.Vec3.{Vec3}
 use Rattle.records.specs.Bytes.{_<?_, _≤?_, sum}
 use Rattle.records.specs.Result.{Result, encode, decode, All, none, and, Short, Fits, FitsUv, FitsXyz, Writable, Loop, cornersOf, countOf, areaOf, resultOf}
-use Rattle.records.specs.Lent.{filledIf, least5}
+use Rattle.records.specs.Lent.{filledIf}
+use Rattle.tables.specs.Corners.{Corner, Corners, uvOf, positions}
+use Rattle.tables.specs.Rows.{rows}
 use Rattle.records.proofs.RoundTrip.{decode-encode}
-use Rattle.results.specs.Written.{pairs, triples, lentResult, allShort, headerHolds, lengthOf, resultFits, Fitting}
-use Rattle.results.proofs.Columns.{pairs-of, triples-of}
+use Rattle.results.specs.Written.{tableResult, allShort, headerHolds, lengthOf, resultFits, Fitting}
 use Rattle.results.proofs.Whole.{and-fst, and-snd, area-each, pair-each, position-each}
 
 -- ---- doubles
@@ -24,18 +24,18 @@ all-take zero h = none
 all-take (suc n) none = none
 all-take (suc n) (and h hs) = and h (all-take n hs)
 
-all-pairs : {u v : List Float} → All Fits u → All Fits v → All FitsUv (pairs u v)
-unfolding pairs
-all-pairs none hs = none
-all-pairs (and h hs) none = none
-all-pairs (and h hs) (and k ks) = and (record { u = h; v = k }) (all-pairs hs ks)
+-- all five reals of a corner are doubles
+pub record FitsCorner (c : Corner Vec3) : Type 0 where
+  pub parameters : FitsUv (uvOf c)
+  pub position : FitsXyz (c .at)
 
-all-triples : {x y z : List Float} → All Fits x → All Fits y → All Fits z → All FitsXyz (triples x y z)
-unfolding triples
-all-triples none ks ls = none
-all-triples (and h hs) none ls = none
-all-triples (and h hs) (and k ks) none = none
-all-triples (and h hs) (and k ks) (and l ls) = and (record { x = h; y = k; z = l }) (all-triples hs ks ls)
+all-parameters : {r : Corners Vec3} → All FitsCorner r → All FitsUv (map uvOf r)
+all-parameters none = none
+all-parameters (and h hs) = and (h .parameters) (all-parameters hs)
+
+all-positions : {r : Corners Vec3} → All FitsCorner r → All FitsXyz (positions r)
+all-positions none = none
+all-positions (and h hs) = and (h .position) (all-positions hs)
 
 all-short : (counts : List ℕ) → allShort counts ≡ true → All Short counts
 unfolding allShort
@@ -48,8 +48,7 @@ all-short (n ∷ ns) e = go (n <? 65536) refl e (all-short ns)
 
 -- ---- what fits can be written, and is read back
 
-module _ (counts : List ℕ) (areas u v x y z : List Float) (out : List ℕ)
-    (fits : resultFits counts (length areas) (least5 (length u) (length v) (length x) (length y) (length z)) (length out) ≡ true) where
+module _ (counts : List ℕ) (areas t : List Float) (out : List ℕ) (fits : resultFits counts (length areas) (length (rows t)) (length out) ≡ true) where
   header : headerHolds counts ≡ true
   unfolding resultFits
   header = and-fst (headerHolds counts) _ fits
@@ -58,7 +57,7 @@ module _ (counts : List ℕ) (areas u v x y z : List Float) (out : List ℕ)
   unfolding headerHolds
   few-short = and-snd (1 ≤? length counts) _ header
 
-  fitting : Fitting out counts areas (sum counts) u v x y z
+  fitting : Fitting out counts areas (sum counts) t
   unfolding resultFits headerHolds
   fitting =
       let bytes = and-snd (headerHolds counts) _ fits in
@@ -72,12 +71,11 @@ module _ (counts : List ℕ) (areas u v x y z : List Float) (out : List ℕ)
         long = leb-true (lengthOf counts) (length out) (and-fst (lengthOf counts ≤? length out) _ bytes);
       }
 
-  module _ (fa : All Fits areas) (fu : All Fits u) (fv : All Fits v) (fx : All Fits x) (fy : All Fits y) (fz : All Fits z) (path : ℕ) where
-    pub lent-writable : Writable (lentResult path counts areas u v x y z)
-    unfolding lentResult
-    lent-writable =
+  module _ (fa : All Fits areas) (fr : All FitsCorner (rows t)) (path : ℕ) where
+    pub table-writable : Writable (tableResult path counts areas (rows t))
+    unfolding tableResult
+    table-writable =
         let w = fitting in
-        let n = sum counts in
         record {
           outer = w .outer;
           few = w .few;
@@ -86,25 +84,21 @@ module _ (counts : List ℕ) (areas u v x y z : List Float) (out : List ℕ)
           a-pair-each = pair-each w;
           a-position-each = position-each w;
           areas-fit = all-take (length counts) fa;
-          parameters-fit = all-pairs (all-take n fu) (all-take n fv);
-          positions-fit = all-triples (all-take n fx) (all-take n fy) (all-take n fz);
+          parameters-fit = all-parameters (all-take (sum counts) fr);
+          positions-fit = all-positions (all-take (sum counts) fr);
         }
 
     -- the lent bytes after writing, read as a result record
-    pub read-back : decode (filledIf true (encode (lentResult path counts areas u v x y z)) out) ≡ lentResult path counts areas u v x y z
+    pub read-back : decode (filledIf true (encode (tableResult path counts areas (rows t))) out) ≡ tableResult path counts areas (rows t)
     unfolding filledIf
-    read-back = decode-encode (lentResult path counts areas u v x y z) lent-writable _
+    read-back = decode-encode (tableResult path counts areas (rows t)) table-writable _
 
--- ---- slices that hold loops
+-- ---- a table that holds loops
 
--- the corners of all loops in five columns, the counts and the areas, each at the front of its slice
-pub lent-loops : {C : Type 0} (toUv : C → Vec2) (toXyz : C → Vec3) (ls : List (Loop C)) (path : ℕ) (counts : List ℕ) (areas u v x y z : List Float)
-    → counts ≡ map countOf ls → take (length counts) areas ≡ map areaOf ls
-    → take (sum counts) u ≡ map (λ (c : C). toUv c .u) (cornersOf ls) → take (sum counts) v ≡ map (λ (c : C). toUv c .v) (cornersOf ls)
-    → take (sum counts) x ≡ map (λ (c : C). toXyz c .x) (cornersOf ls) → take (sum counts) y ≡ map (λ (c : C). toXyz c .y) (cornersOf ls)
-    → take (sum counts) z ≡ map (λ (c : C). toXyz c .z) (cornersOf ls) → lentResult path counts areas u v x y z ≡ resultOf toUv toXyz path ls
-unfolding lentResult resultOf
-lent-loops toUv toXyz ls path counts areas u v x y z ec ea eu ev ex ey ez =
-    let us : pairs (take (sum counts) u) (take (sum counts) v) ≡ map toUv (cornersOf ls) = rw (eu, ev) (pairs-of toUv (cornersOf ls)) in
-    let xs : triples (take (sum counts) x) (take (sum counts) y) (take (sum counts) z) ≡ map toXyz (cornersOf ls) = rw (ex, ey, ez) (triples-of toXyz (cornersOf ls)) in
-    λ i. record { path = path; counts = ec i; areas = ea i; parameters = us i; positions = xs i }
+-- the corners of all loops at the front of a table, the counts, and the areas at the front of theirs
+pub table-loops : (ls : List (Loop (Corner Vec3))) (path : ℕ) (counts : List ℕ) (areas : List Float) (r : Corners Vec3)
+    → counts ≡ map countOf ls → take (length counts) areas ≡ map areaOf ls → take (sum counts) r ≡ cornersOf ls
+    → tableResult path counts areas r ≡ resultOf uvOf (λ (c : Corner Vec3). c .at) path ls
+unfolding tableResult resultOf
+table-loops ls path counts areas r ec ea er =
+    λ i. record { path = path; counts = ec i; areas = ea i; parameters = map uvOf (er i); positions = positions (er i) }

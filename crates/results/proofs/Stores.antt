@@ -1,17 +1,14 @@
 -- Bytes stored one after another: what is stored, with what remains to be stored, is the whole.
 use mathlib.Core.Path.{_≡_, refl, sym, ap, _∙_}
-use mathlib.Core.List.{List, [], _∷_, _++_, append-assoc}
+use mathlib.Core.List.{List, _++_}
 use Prim.Native.Nat.{ℕ, zero, suc, _+_, _-_, _*_, _/_, _%_, _≤_, _<_}
 use native.Mathlib.Numerals.{add-one}
 use native.Mathlib.Omega.{arith}
-use lib.ListN.{length, getD, drop, set, length-set, length-append, drop-of-length-le}
+use lib.ListN.{length, getD, drop, set, length-set, drop-of-length-le}
 use lib.Seq.{sets, length-sets, drop-cons}
 use lib.Ieee.{Float, nan, binary64, toBits}
 use Rattle.lists.proofs.Stores.{sets-append}
-use Rattle.numbers.specs.declared.math.Vec2.{Vec2}
-use Rattle.numbers.specs.declared.math.Vec3.{Vec3}
-use Rattle.records.specs.Bytes.{bytes, u16, real, uv, xyz, row}
-use Rattle.records.proofs.RoundTrip.{Codes, codes-u16, codes-real, codes-uv, codes-xyz}
+use Rattle.records.specs.Bytes.{bytes, real, row}
 
 -- ---- one number: i of its w bytes are stored, `rest` holds the others
 
@@ -53,7 +50,7 @@ pub record Storing {A : Type 0} (write : A → List ℕ) (w : ℕ) (out₀ : Lis
   pub long : length out ≡ length out₀
   pub is : sets out (p + w * i) (row write (drop i xs)) ≡ sets out₀ p (row write xs)
 
-module _ {A : Type 0} {one : List ℕ → ℕ → A} {write : A → List ℕ} {w : ℕ} {Ok : A → Type 0} (c : Codes one write w Ok) {out₀ : List ℕ} {p : ℕ} {xs : List A} where
+module _ {A : Type 0} {write : A → List ℕ} {w : ℕ} (wide : (a : A) → length (write a) ≡ w) {out₀ : List ℕ} {p : ℕ} {xs : List A} where
   pub store-start : Storing write w out₀ p xs out₀ 0
   store-start = let e : p + w * 0 ≡ p = omega arith in record { long = refl; is = rw e }
 
@@ -66,7 +63,7 @@ module _ {A : Type 0} {one : List ℕ → ℕ → A} {write : A → List ℕ} {w
     pub store-turn : {out′ : List ℕ} (d : A) → i < length xs → out′ ≡ sets out (p + w * i) (write (getD xs i d)) → Storing write w out₀ p xs out′ (i + 1)
     store-turn d h e =
         let a = getD xs i d in
-        let q : p + w * (i + 1) ≡ p + w * i + length (write a) = let z = c .wide a in omega arith in
+        let q : p + w * (i + 1) ≡ p + w * i + length (write a) = let z = wide a in omega arith in
         record {
           long = ap length e ∙ length-sets out (p + w * i) (write a) ∙ r .long;
           is = rw e (sets-append out (p + w * i) (p + w * (i + 1)) (write a) (row write (drop (i + 1) xs)) q ∙ ap (sets out (p + w * i)) (sym (left d h)) ∙ r .is);
@@ -84,12 +81,3 @@ as-real n x e = ap (bytes 8) e
 
 pub put-real : (out out′ : List ℕ) (p n : ℕ) (x : Float) → n ≡ toBits binary64 x → out′ ≡ sets out p (bytes 8 n) → out′ ≡ sets out p (real x)
 put-real out out′ p n x e f = f ∙ ap (sets out p) (as-real n x e)
-
-pub put-uv : (out a b : List ℕ) (p : ℕ) (x y : Float) → a ≡ sets out p (real x) → b ≡ sets a (p + 8) (real y) → b ≡ sets out p (real x ++ real y)
-put-uv out a b p x y e f = f ∙ rw e (sets-append out p (p + 8) (real x) (real y) (let z = codes-real .wide x in omega arith))
-
-pub put-xyz : (out a b c : List ℕ) (p : ℕ) (x y z : Float) → a ≡ sets out p (real x) → b ≡ sets a (p + 8) (real y) → c ≡ sets b (p + 16) (real z)
-    → c ≡ sets out p (real x ++ (real y ++ real z))
-put-xyz out a b c p x y z e f g =
-    let l : length (real x ++ real y) ≡ 16 = simp length-append (let m = codes-real .wide x in let n = codes-real .wide y in omega arith) in
-    g ∙ rw (put-uv out a b p x y e f) (sets-append out p (p + 16) (real x ++ real y) (real z) (omega arith) ∙ ap (sets out p) (append-assoc (real x) (real y) (real z)))

@@ -1,66 +1,44 @@
 -- The parts of a result record stored one behind another are the record; and what the writer answers.
 use mathlib.Core.Path.{_≡_, refl, sym, ap, _∙_}
 use mathlib.Core.Bool.{Bool, true, false, _&&_, cond, true≢false}
-use mathlib.Core.List.{List, [], _∷_, _++_}
+use mathlib.Core.List.{List, [], _∷_, _++_, map}
 use Prim.Native.Nat.{ℕ, _+_, _-_, _*_, _≤_, _<_}
 use native.Mathlib.Omega.{arith}
-use lib.ListN.{length, take, drop, length-append}
+use lib.ListN.{length, take, drop, length-append, length-map}
 use lib.Seq.{sets, sets-eq, length-take-le}
 use lib.Ieee.{Float}
+use Rattle.numbers.specs.declared.math.Vec3.{Vec3}
 use borrow.Author.Tests.{le-leb, lt-leb, leb-true}
 use Rattle.lists.proofs.Stores.{sets-append}
 use Rattle.records.specs.Bytes.{_≤?_, u16, real, uv, xyz, row, sum}
 use Rattle.records.specs.Result.{Result, encode, resultLength}
-use Rattle.records.specs.Lent.{front, filledIf, least5}
+use Rattle.records.specs.Lent.{front, filledIf}
 use Rattle.records.proofs.RoundTrip.{codes-u16, codes-real, codes-uv, codes-xyz, length-row}
 use Rattle.results.specs.declared.Path.{Path}
 use Rattle.results.specs.declared.Size.{Size}
 use Rattle.results.specs.declared.Size.the-variants.{Takes, TooLarge}
 use Rattle.results.specs.declared.Written.{Written}
 use Rattle.results.specs.declared.Written.the-variants.{Length, Refused}
-use Rattle.results.specs.Written.{pathOf, pairs, triples, lentResult, headerHolds, lengthOf, sizeOf, writtenIf, resultFits, Fitting, WrittenTo}
-use Rattle.results.proofs.Columns.{length-pairs, length-triples}
+use Rattle.results.specs.Written.{pathOf, columnsOf, tableResult, headerHolds, lengthOf, sizeOf, writtenIf, resultFits, Fitting, WrittenTo}
+use Rattle.tables.specs.Corners.{Corner, uvOf, positions}
+use Rattle.tables.specs.Rows.{rows}
+use Rattle.results.proofs.Columns.{columns-uv, columns-xyz}
 
 -- ---- the parts
 
-module _ {out counts : List ℕ} {areas : List Float} {m : ℕ} {u v x y z : List Float} (w : Fitting out counts areas m u v x y z) where
-  -- the front of a column
-  front-long : (l : List Float) → m ≤ length l → length (take m l) ≡ sum counts
-  front-long l h = length-take-le m l h ∙ w .corners
-
-  as-u : length (take m u) ≡ sum counts
-  as-u = front-long u (let r = w .room in omega arith)
-
-  as-v : length (take m v) ≡ sum counts
-  as-v = front-long v (let r = w .room in omega arith)
-
-  as-x : length (take m x) ≡ sum counts
-  as-x = front-long x (let r = w .room in omega arith)
-
-  as-y : length (take m y) ≡ sum counts
-  as-y = front-long y (let r = w .room in omega arith)
-
-  as-z : length (take m z) ≡ sum counts
-  as-z = front-long z (let r = w .room in omega arith)
-
-  pub v-as-u : length (take m v) ≡ length (take m u)
-  v-as-u = as-v ∙ sym as-u
-
-  pub y-as-x : length (take m y) ≡ length (take m x)
-  y-as-x = as-y ∙ sym as-x
-
-  pub z-as-x : length (take m z) ≡ length (take m x)
-  z-as-x = as-z ∙ sym as-x
+module _ {out counts : List ℕ} {areas : List Float} {m : ℕ} {t : List Float} (w : Fitting out counts areas m t) where
+  corners-long : length (take m (rows t)) ≡ m
+  corners-long = length-take-le m (rows t) (w .room)
 
   -- how many areas, parameters and positions there are
   pub area-each : length (take (length counts) areas) ≡ length counts
   area-each = length-take-le (length counts) areas (w .an-area-each)
 
-  pub pair-each : length (pairs (take m u) (take m v)) ≡ sum counts
-  pair-each = length-pairs (take m u) (take m v) v-as-u ∙ as-u
+  pub pair-each : length (map uvOf (take m (rows t))) ≡ m
+  pair-each = length-map (take m (rows t)) (λ (c : Corner Vec3). uvOf c) ∙ corners-long
 
-  pub position-each : length (triples (take m x) (take m y) (take m z)) ≡ sum counts
-  position-each = length-triples (take m x) (take m y) (take m z) y-as-x z-as-x ∙ as-x
+  pub position-each : length (positions (take m (rows t))) ≡ m
+  position-each = length-map (take m (rows t)) (λ (c : Corner Vec3). c .at) ∙ corners-long
 
   abbrev n : ℕ
   n = length counts
@@ -72,10 +50,10 @@ module _ {out counts : List ℕ} {areas : List Float} {m : ℕ} {u v x y z : Lis
   A = row real (take n areas)
 
   abbrev P : List ℕ
-  P = row uv (pairs (take m u) (take m v))
+  P = row uv (map uvOf (take m (rows t)))
 
   abbrev X : List ℕ
-  X = row xyz (triples (take m x) (take m y) (take m z))
+  X = row xyz (positions (take m (rows t)))
 
   size-C : length C ≡ 2 * n
   size-C = length-row codes-u16 counts
@@ -84,16 +62,19 @@ module _ {out counts : List ℕ} {areas : List Float} {m : ℕ} {u v x y z : Lis
   size-A = length-row codes-real (take n areas) ∙ ap (λ (k : ℕ). 8 * k) area-each
 
   size-P : length P ≡ 16 * m
-  size-P = length-row codes-uv (pairs (take m u) (take m v)) ∙ ap (λ (k : ℕ). 16 * k) (pair-each ∙ sym (w .corners))
+  size-P = length-row codes-uv (map uvOf (take m (rows t))) ∙ ap (λ (k : ℕ). 16 * k) pair-each
 
   size-X : length X ≡ 24 * m
-  size-X = length-row codes-xyz (triples (take m x) (take m y) (take m z)) ∙ ap (λ (k : ℕ). 24 * k) (position-each ∙ sym (w .corners))
+  size-X = length-row codes-xyz (positions (take m (rows t))) ∙ ap (λ (k : ℕ). 24 * k) position-each
 
   -- a, b, c, d, e are the lent bytes after the header and after each row
   pub whole : (path : ℕ) {a b c d e : List ℕ} → a ≡ sets out 0 (1 ∷ path ∷ (n - 1) ∷ 0 ∷ []) → b ≡ sets a 4 C → c ≡ sets b (4 + 2 * n) A
-      → d ≡ sets c (4 + 10 * n) P → e ≡ sets d (4 + 10 * n + 16 * m) X → e ≡ front (encode (lentResult path counts areas u v x y z)) out
-  unfolding encode lentResult
-  whole path {a} {b} {c} {d} {e} ea eb ec ed ee =
+      → d ≡ sets c (4 + 10 * n) (row (columnsOf 0 2) (take m (rows t))) → e ≡ sets d (4 + 10 * n + 16 * m) (row (columnsOf 2 5) (take m (rows t)))
+      → e ≡ front (encode (tableResult path counts areas (rows t))) out
+  unfolding encode tableResult
+  whole path {a} {b} {c} {d} {e} ea eb ec ed₀ ee₀ =
+      let ed : d ≡ sets c (4 + 10 * n) P = ed₀ ∙ ap (sets c (4 + 10 * n)) (columns-uv (take m (rows t))) in
+      let ee : e ≡ sets d (4 + 10 * n + 16 * m) X = ee₀ ∙ ap (sets d (4 + 10 * n + 16 * m)) (columns-xyz (take m (rows t))) in
       let start : List ℕ = 1 ∷ path ∷ (n - 1) ∷ 0 ∷ [] in
       let sc = size-C in
       let sa = size-A in
@@ -108,7 +89,7 @@ module _ {out counts : List ℕ} {areas : List Float} {m : ℕ} {u v x y z : Lis
       let whole-is : e ≡ sets out 0 all = capx ∙ rw ea (sets-append out 0 4 start (C ++ (A ++ (P ++ X))) refl) in
       let l : length all ≡ lengthOf counts = simp length-append (let q = w .corners in omega arith) in
       let g : 0 + length all ≡ length all = omega arith in
-      let named : all ≡ encode (lentResult path counts areas u v x y z) = rw (w .corners) in
+      let named : all ≡ encode (tableResult path counts areas (rows t)) = rw (w .corners) in
       whole-is ∙ sets-eq all out 0 (omega arith) ∙ ap (λ (k : ℕ). all ++ drop k out) g ∙ ap (λ (r : List ℕ). front r out) named
 
 -- ---- bools
@@ -141,9 +122,9 @@ sized {counts} {m} {n} s f e = go (headerHolds counts) refl (sym f ∙ e)
     go true h q = record { held = h; corners = cc; long = cc }
     go false h q = let z : _≡_ {A = ℕ} 0 1 = cc in absurd (omega arith)
 
--- behind the last test, with r the shortest of the columns
-pub fitting : {out counts : List ℕ} {areas u v x y z : List Float} {m n r : ℕ} → Sized counts m n → n ≤ length out → length counts ≤ length areas
-    → r ≡ least5 (length u) (length v) (length x) (length y) (length z) → m ≤ r → Fitting out counts areas m u v x y z
+-- behind the last test, with r the rows of the table
+pub fitting : {out counts : List ℕ} {areas t : List Float} {m n r : ℕ} → Sized counts m n → n ≤ length out → length counts ≤ length areas
+    → r ≡ length (rows t) → m ≤ r → Fitting out counts areas m t
 unfolding headerHolds
 fitting {counts = counts} s h a q l = record {
   outer = leb-true 1 (length counts) (and-fst (1 ≤? length counts) _ (s .held));
@@ -154,42 +135,42 @@ fitting {counts = counts} s h a q l = record {
   long = rw (s .long) at h;
 }
 
-abbrev fits : (counts : List ℕ) (areas u v x y z : List Float) (out : List ℕ) → Bool
-fits counts areas u v x y z out = resultFits counts (length areas) (least5 (length u) (length v) (length x) (length y) (length z)) (length out)
+abbrev fits : (counts : List ℕ) (areas t : List Float) (out : List ℕ) → Bool
+fits counts areas t out = resultFits counts (length areas) (length (rows t)) (length out)
 
-module _ {path : Path} {counts : List ℕ} {areas u v x y z : List Float} {out : List ℕ} where
-  kept : fits counts areas u v x y z out ≡ false → WrittenTo path counts areas u v x y z out out Refused
+module _ {path : Path} {counts : List ℕ} {areas t : List Float} {out : List ℕ} where
+  kept : fits counts areas t out ≡ false → WrittenTo path counts areas t out out Refused
   unfolding writtenIf filledIf
   kept e = record { answer = rw e; is = rw e }
 
-  pub too-large : (s : Size) → s ≡ TooLarge → s ≡ sizeOf counts → WrittenTo path counts areas u v x y z out out Refused
+  pub too-large : (s : Size) → s ≡ TooLarge → s ≡ sizeOf counts → WrittenTo path counts areas t out out Refused
   unfolding sizeOf resultFits
   too-large s f e = kept (go (headerHolds counts) (sym f ∙ e))
     where
       go : (b : Bool) → TooLarge ≡ cond b (Takes (sum counts) (lengthOf counts)) TooLarge
-          → (b && ((lengthOf counts ≤? length out) && ((length counts ≤? length areas) && (sum counts ≤? least5 (length u) (length v) (length x) (length y) (length z))))) ≡ false
+          → (b && ((lengthOf counts ≤? length out) && ((length counts ≤? length areas) && (sum counts ≤? length (rows t))))) ≡ false
       go false e = refl
       go true e = let q : _≡_ {A = ℕ} 0 1 = cc in absurd (omega arith)
 
   module _ {m n : ℕ} (s : Sized counts m n) where
-    pub short-out : length out < n → WrittenTo path counts areas u v x y z out out Refused
+    pub short-out : length out < n → WrittenTo path counts areas t out out Refused
     unfolding resultFits
     short-out h = let l = s .long in kept (and-right (headerHolds counts) _ (rw (lt-leb (lengthOf counts) (length out) (omega arith))))
 
-    pub short-areas : length areas < length counts → WrittenTo path counts areas u v x y z out out Refused
+    pub short-areas : length areas < length counts → WrittenTo path counts areas t out out Refused
     unfolding resultFits
     short-areas h = kept (and-right (headerHolds counts) _ (and-right (lengthOf counts ≤? length out) _ (rw (lt-leb (length counts) (length areas) h))))
 
-    pub short-columns : {r : ℕ} → r ≡ least5 (length u) (length v) (length x) (length y) (length z) → r < m → WrittenTo path counts areas u v x y z out out Refused
+    pub short-columns : {r : ℕ} → r ≡ length (rows t) → r < m → WrittenTo path counts areas t out out Refused
     unfolding resultFits
     short-columns {r} q h =
-        let l : least5 (length u) (length v) (length x) (length y) (length z) < sum counts = rw (q, s .corners) at h in
+        let l : length (rows t) < sum counts = rw (q, s .corners) at h in
         kept (and-right (headerHolds counts) _ (and-right (lengthOf counts ≤? length out) _ (and-right (length counts ≤? length areas) _ (lt-leb (sum counts) _ l))))
 
-    pub done : Fitting out counts areas m u v x y z → {out′ : List ℕ} {p : ℕ} → p ≡ pathOf path
-        → out′ ≡ front (encode (lentResult p counts areas u v x y z)) out → WrittenTo path counts areas u v x y z out out′ (Length n)
+    pub done : Fitting out counts areas m t → {out′ : List ℕ} {p : ℕ} → p ≡ pathOf path
+        → out′ ≡ front (encode (tableResult p counts areas (rows t))) out → WrittenTo path counts areas t out out′ (Length n)
     unfolding writtenIf filledIf resultFits
     done w ep eo =
-        let all : fits counts areas u v x y z out ≡ true =
+        let all : fits counts areas t out ≡ true =
         rw (s .held, le-leb (lengthOf counts) (length out) (w .long), le-leb (length counts) (length areas) (w .an-area-each), le-leb (sum counts) _ (rw (w .corners) at (w .room))) in
         record { answer = rw (all, s .long); is = rw all (eo ∙ rw ep) }

@@ -1,17 +1,18 @@
-// Writing a result record into lent bytes: sizes (path, corner counts), areas, parameters and
-// positions come as parallel slices of any length. The record's length is known from its sizes
-// before the first byte is written; where something lent is too short nothing is written.
+// Writing a result record into lent bytes: sizes (path, corner counts), areas, and the corners in a
+// table, all of any length. The record's length is known from its sizes before the first byte is
+// written; where something lent is too short nothing is written.
 ghost use mathlib.Core.Path.{_≡_};
 ghost use mathlib.Core.List.{_∷_, []};
 ghost use Prim.Native.Nat.{_+_, _-_, _*_, _≤_};
-ghost use lib.ListN.{length};
+ghost use lib.ListN.{length, take};
 ghost use lib.Seq.{sets};
-ghost use Rattle.records.specs.Bytes.{bytes, u16, real, uv, xyz, row};
+ghost use Rattle.records.specs.Bytes.{bytes, u16, real, row};
 ghost use Rattle.records.specs.Result.{encode};
 ghost use Rattle.records.specs.Lent.{front};
-ghost use Rattle.results.specs.Written.{pathOf, pairs, triples, lentResult, sizeOf, Fitting, WrittenTo};
+ghost use Rattle.tables.specs.Rows.{rows};
+ghost use Rattle.results.specs.Written.{pathOf, columnsOf, tableResult, sizeOf, Fitting, WrittenTo};
 use numbers::bits;
-use records::lent;
+use tables::corners::count;
 
 pub enum Path {
     Closed,
@@ -114,71 +115,47 @@ fn put_reals(out: &mut [u8], at: usize, xs: &[f64])
     }
 }
 
-fn put_pairs(out: &mut [u8], at: usize, u: &[f64], v: &[f64])
-    requires { ⌜ (at + 16 * length (now u) ≤ length (now out)) × (length (now v) ≡ length (now u)) ⌝ }
-    ensures { λ _. ⌜ now (out .exit) ≡ sets (now (out .entry)) at (row uv (pairs (now (u .entry)) (now (v .entry)))) ⌝ }
+// Of each of the first m rows the reals from one up to another, row behind row: 0 to 2 are the
+// parameters, 2 to 5 the position.
+fn put_columns(out: &mut [u8], at: usize, t: &[f64], m: usize, from: usize, to: usize)
+    requires { ⌜ (from ≤ to) × (to ≤ 5) × (m ≤ length (rows (now t))) × (at + 8 * (to - from) * m ≤ length (now out)) ⌝ }
+    ensures { λ _. ⌜ now (out .exit) ≡ sets (now (out .entry)) at (row (columnsOf from to) (take m (rows (now (t .entry))))) ⌝ }
 {
+    let width = 8 * (to - from);
+    let mut p = at;
     let mut i = 0;
-    while i < u.len() {
-        put(out, at + 16 * i, 8, bits::to_bits(u[i]));
-        put(out, at + 16 * i + 8, 8, bits::to_bits(v[i]));
-        i += 1;
-    }
-}
-
-fn put_triples(out: &mut [u8], at: usize, x: &[f64], y: &[f64], z: &[f64])
-    requires { ⌜ (at + 24 * length (now x) ≤ length (now out)) × (length (now y) ≡ length (now x)) × (length (now z) ≡ length (now x)) ⌝ }
-    ensures { λ _. ⌜ now (out .exit) ≡ sets (now (out .entry)) at (row xyz (triples (now (x .entry)) (now (y .entry)) (now (z .entry)))) ⌝ }
-{
-    let mut i = 0;
-    while i < x.len() {
-        put(out, at + 24 * i, 8, bits::to_bits(x[i]));
-        put(out, at + 24 * i + 8, 8, bits::to_bits(y[i]));
-        put(out, at + 24 * i + 16, 8, bits::to_bits(z[i]));
+    while i < m {
+        let a = 5 * i + from;
+        let e = 5 * i + to;
+        put_reals(out, p, &t[a..e]);
+        p += width;
         i += 1;
     }
 }
 
 // The whole record, where all fits: m is the number of corners.
-fn put_result(
-    out: &mut [u8],
-    path: u8,
-    counts: &[usize],
-    areas: &[f64],
-    m: usize,
-    u: &[f64],
-    v: &[f64],
-    x: &[f64],
-    y: &[f64],
-    z: &[f64],
-)
-    requires { ⌜ Fitting (now out) (now counts) (now areas) m (now u) (now v) (now x) (now y) (now z) ⌝ }
-    ensures { λ _. ⌜ now (out .exit) ≡ front (encode (lentResult path (now (counts .entry)) (now (areas .entry))
-        (now (u .entry)) (now (v .entry)) (now (x .entry)) (now (y .entry)) (now (z .entry)))) (now (out .entry)) ⌝ }
+fn put_result(out: &mut [u8], path: u8, counts: &[usize], areas: &[f64], m: usize, t: &[f64])
+    requires { ⌜ Fitting (now out) (now counts) (now areas) m (now t) ⌝ }
+    ensures { λ _. ⌜ now (out .exit) ≡ front (encode (tableResult path (now (counts .entry)) (now (areas .entry)) (rows (now (t .entry))))) (now (out .entry)) ⌝ }
 {
     let n = counts.len();
     put_head(out, path, (n - 1) as u8);
     put_counts(out, 4, counts);
     put_reals(out, 4 + 2 * n, &areas[..n]);
-    put_pairs(out, 4 + 10 * n, &u[..m], &v[..m]);
-    put_triples(out, 4 + 10 * n + 16 * m, &x[..m], &y[..m], &z[..m]);
+    put_columns(out, 4 + 10 * n, t, m, 0, 2);
+    put_columns(out, 4 + 10 * n + 16 * m, t, m, 2, 5);
 }
 
-// One count and one area for each loop, the outer loop first; u, v, x, y, z of all corners, loop by
-// loop. Slices may be longer than what is taken from them.
+// One count and one area for each loop, the outer loop first, and all corners, loop by loop. Areas and
+// table may be longer than what is taken from them.
 pub fn write_result(
     path: Path,
     counts: &[usize],
     areas: &[f64],
-    u: &[f64],
-    v: &[f64],
-    x: &[f64],
-    y: &[f64],
-    z: &[f64],
+    t: &[f64],
     out: &mut [u8],
 ) -> Written
-    ensures { λ r. ⌜ WrittenTo path (now (counts .entry)) (now (areas .entry)) (now (u .entry)) (now (v .entry))
-        (now (x .entry)) (now (y .entry)) (now (z .entry)) (now (out .entry)) (now (out .exit)) r ⌝ }
+    ensures { λ r. ⌜ WrittenTo path (now (counts .entry)) (now (areas .entry)) (now (t .entry)) (now (out .entry)) (now (out .exit)) r ⌝ }
 {
     let size = result_size(counts);
     let Size::Takes { corners, length } = size else {
@@ -190,9 +167,9 @@ pub fn write_result(
     if areas.len() < counts.len() {
         return Written::Refused;
     }
-    if lent::least5(u.len(), v.len(), x.len(), y.len(), z.len()) < corners {
+    if count(t) < corners {
         return Written::Refused;
     }
-    put_result(out, path_byte(path), counts, areas, corners, u, v, x, y, z);
+    put_result(out, path_byte(path), counts, areas, corners, t);
     Written::Length(length)
 }

@@ -44,6 +44,11 @@ vPeriod (Cone R a) = None
 vPeriod (Sphere R) = None
 vPeriod (Torus R r) = Every TAU
 
+-- a period as a real: 0 where a parameter does not come round
+abbrev pub periodLength : Period → Float
+periodLength None = plusZero
+periodLength (Every p) = p
+
 abbrev pub uRange : Surface → Interval
 uRange Plane = unbounded
 uRange (Cylinder R) = fullTurn

@@ -3,3 +3,5 @@ pub mod InPlace
 pub mod PartRows
 pub mod Taking
 pub mod Unless
+pub mod CornersFrom
+pub mod Putting

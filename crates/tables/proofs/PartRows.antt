@@ -5,8 +5,8 @@ use mathlib.Core.List.{List, [], _∷_, _++_, map}
 use native.Mathlib.Omega.{arith}
 use native.Mathlib.Decide.{decLe}
 use lib.Ieee.{Float}
-use lib.ListN.{length, getD, take, drop, length-append, length-take, length-drop, List·getD-eq-default}
-use lib.Seq.{length-take-le, drop-drop, take-length}
+use lib.ListN.{length, getD, take, drop, length-append, length-take, length-drop, drop-of-length-le, List·getD-eq-default}
+use lib.Seq.{length-take-le, drop-drop, take-length, take-all}
 use Rattle.numbers.specs.declared.math.Vec3.{Vec3}
 use Rattle.lists.specs.Parts.{onPart}
 use Rattle.lists.specs.Placed.{placed}
@@ -107,3 +107,23 @@ module _ (t : List Float) (counts : List ℕ) (k n : ℕ) where
 pub loop-past : (t : List Float) (counts : List ℕ) (k : ℕ) → length counts ≤ k → rows (take (0 - 0) (drop 0 t)) ≡ getD (pieces counts (rows t)) k []
 unfolding rows
 loop-past t counts k h = sym (List·getD-eq-default (pieces counts (rows t)) [] {n = k} (let l = length-pieces counts (rows t) in omega arith))
+
+-- ---- so many rows from a row on
+
+module _ (t : List Float) (from n all : ℕ) (count : all ≡ length (rows t)) where
+  pub part-past : all < from → rows (take (0 - 0) (drop 0 t)) ≡ take n (drop from (rows t))
+  unfolding rows
+  part-past h = sym (ap (take n) (drop-of-length-le (rows t) {i = from} (omega arith)) ∙ take-nil n)
+    where
+      take-nil : (k : ℕ) → _≡_ {A = Corners Vec3} (take k []) []
+      take-nil zero = refl
+      take-nil (suc k) = refl
+
+  pub part-there : (to : ℕ) → from ≤ all → to ≡ min (from + n) all → rows (take (5 * to - 5 * from) (drop (5 * from) t)) ≡ take n (drop from (rows t))
+  part-there to h e = rows-part from to t ∙ by-room (decLe (from + n) all)
+    where
+      by-room : Dec (from + n ≤ all) → take (to - from) (drop from (rows t)) ≡ take n (drop from (rows t))
+      by-room (yes k) = let m : to - from ≡ n = omega arith in ap (λ (j : ℕ). take j (drop from (rows t))) m
+      by-room (no k) =
+          let l = length-drop from (rows t) in
+          take-all (to - from) (drop from (rows t)) (omega arith) ∙ sym (take-all n (drop from (rows t)) (omega arith))

@@ -6,10 +6,10 @@ use native.Mathlib.Numerals.{towards-suc}
 use native.Mathlib.Omega.{arith}
 use lib.Ieee.{Float, nan}
 use lib.ListN.{length, getD, set, take, drop, length-drop, List·getD-eq-default, List·getD-map}
-use lib.Seq.{getD-drop, sets, set-out}
+use lib.Seq.{getD-drop, sets, set-out, take-append-le, drop-append-le}
 use Rattle.numbers.specs.declared.math.Vec3.{Vec3}
 use Rattle.tables.specs.Corners.{Corner, Corners, us, vs, moveU}
-use Rattle.tables.specs.Rows.{rows, none}
+use Rattle.tables.specs.Rows.{rows, realsOf, none}
 
 pub length-rows : (t : List Float) → length (rows t) ≡ length t / 5
 unfolding rows
@@ -86,6 +86,22 @@ module _ (t : List Float) (i p : ℕ) (at-p : p ≡ 5 * i) (h : i < length t / 5
       ∙ ap (λ (l : Corners Vec3). getD l 0 none) (sym (rows-drop i t) ∙ ap (λ (k : ℕ). rows (drop k t)) (sym at-p))
       ∙ first-row (drop p t) (let l = length-drop p t in omega arith)
       ∙ rw (getD-drop p t 0 nan, getD-drop p t 1 nan, getD-drop p t 2 nan, getD-drop p t 3 nan, getD-drop p t 4 nan, m)
+
+-- some reals of a row, from one of them on
+pub row-reals : (t : List Float) (i from k : ℕ) → i < length t / 5 → from + k ≤ 5
+    → take k (drop from (drop (5 * i) t)) ≡ take k (drop from (realsOf (getD (rows t) i none)))
+unfolding rows realsOf
+row-reals [] i from k h l = absurd (omega arith)
+row-reals (u ∷ []) i from k h l = absurd (omega arith)
+row-reals (u ∷ v ∷ []) i from k h l = absurd (omega arith)
+row-reals (u ∷ v ∷ x ∷ []) i from k h l = absurd (omega arith)
+row-reals (u ∷ v ∷ x ∷ y ∷ []) i from k h l = absurd (omega arith)
+row-reals (u ∷ v ∷ x ∷ y ∷ z ∷ t) zero from k h l =
+    let row : List Float = u ∷ v ∷ x ∷ y ∷ z ∷ [] in
+    let n = length-drop from row in
+    let m : length row ≡ 5 = refl in
+    ap (take k) (drop-append-le from row t (omega arith)) ∙ take-append-le k (drop from row) t (omega arith)
+row-reals (u ∷ v ∷ x ∷ y ∷ z ∷ t) (suc i) from k h l = rw (five i) (row-reals t i from k (omega arith) l)
 
 pub row-past : (t : List Float) (i : ℕ) → length t / 5 ≤ i → getD (rows t) i none ≡ none
 row-past t i h = List·getD-eq-default (rows t) none (let l = length-rows t in omega arith)

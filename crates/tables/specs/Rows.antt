@@ -9,6 +9,10 @@ use Rattle.tables.specs.declared.corners.Corner.{Corner as Held}
 abbrev pub cornerOf : Held → Corner Vec3
 cornerOf c = record { u = c .u; v = c .v; at = c .at }
 
+-- the reals of a row, in their order
+unfoldable pub realsOf : Corner Vec3 → List Float
+realsOf c = c .u ∷ c .v ∷ c .at .x ∷ c .at .y ∷ c .at .z ∷ []
+
 unfoldable pub rows : List Float → Corners Vec3
 rows (u ∷ v ∷ x ∷ y ∷ z ∷ t) = record { u = u; v = v; at = record { x = x; y = y; z = z } } ∷ rows t
 rows [] = []

@@ -4,6 +4,12 @@ use Rattle.results.proofs.Whole as whole
 use borrow.Author.Needs.{needs}
 use Rattle.results.proofs.put_result.Statement.{statement}
 use Rattle.results.proofs.put_result.Tie as tie
+use Rattle.results.proofs.put_result.Reads as reads
+use Rattle.results.proofs.put_result.Lts as lts
+use Rattle.results.proofs.put_columns.Reads as put-columns-reads
+use Rattle.results.proofs.put_counts.Reads as put-counts-reads
+use Rattle.results.proofs.put_head.Reads as put-head-reads
+use Rattle.results.proofs.put_reals.Reads as put-reals-reads
 
 sub-put-head : tie.Need-sub-put-head
 sub-put-head c = search needs
@@ -29,53 +35,35 @@ slice-aggregate-put-reals c = simp length-take (omega arith)
 put-reals-requires : tie.Need-put-reals-requires
 put-reals-requires c κs = simp length-take (omega arith)
 
-mul-put-pairs : tie.Need-mul-put-pairs
-mul-put-pairs c = search needs
+mul-put-columns : tie.Need-mul-put-columns
+mul-put-columns c = search needs
 
-add-put-pairs : tie.Need-add-put-pairs
-add-put-pairs c = search needs
+add-put-columns : tie.Need-add-put-columns
+add-put-columns c = search needs
 
-slice-aggregate-put-pairs : tie.Need-slice-aggregate-put-pairs
-slice-aggregate-put-pairs c = simp length-take (omega arith)
+put-columns-requires : tie.Need-put-columns-requires
+put-columns-requires c κs = search needs
 
-slice-aggregate-put-pairs-2 : tie.Need-slice-aggregate-put-pairs-2
-slice-aggregate-put-pairs-2 c = simp length-take (omega arith)
+mul-put-columns-2 : tie.Need-mul-put-columns-2
+mul-put-columns-2 c = search needs
 
-put-pairs-requires : tie.Need-put-pairs-requires
-put-pairs-requires c κs =
-    (simp length-take (omega arith), whole.v-as-u (c .before .before .before .before .before .before .before .before .before .before .before .before .before .before .before .before .before .before .before .before .before .before .before .before .pre))
+add-put-columns-2 : tie.Need-add-put-columns-2
+add-put-columns-2 c = search needs
 
-mul-put-triples : tie.Need-mul-put-triples
-mul-put-triples c = search needs
+mul-put-columns-3 : tie.Need-mul-put-columns-3
+mul-put-columns-3 c = search needs
 
-add-put-triples : tie.Need-add-put-triples
-add-put-triples c = search needs
+add-put-columns-3 : tie.Need-add-put-columns-3
+add-put-columns-3 c = search needs
 
-mul-put-triples-2 : tie.Need-mul-put-triples-2
-mul-put-triples-2 c = search needs
-
-add-put-triples-2 : tie.Need-add-put-triples-2
-add-put-triples-2 c = search needs
-
-slice-aggregate-put-triples : tie.Need-slice-aggregate-put-triples
-slice-aggregate-put-triples c = simp length-take (omega arith)
-
-slice-aggregate-put-triples-2 : tie.Need-slice-aggregate-put-triples-2
-slice-aggregate-put-triples-2 c = simp length-take (omega arith)
-
-slice-aggregate-put-triples-3 : tie.Need-slice-aggregate-put-triples-3
-slice-aggregate-put-triples-3 c = simp length-take (omega arith)
-
-put-triples-requires : tie.Need-put-triples-requires
-put-triples-requires c κs =
-    (simp length-take (omega arith), whole.y-as-x (c .before .before .before .before .before .before .before .before .before .before .before .before .before .before .before .before .before .before .before .before .before .before .before .before .before .before .before .before .before .before .before .pre), whole.z-as-x (c .before .before .before .before .before .before .before .before .before .before .before .before .before .before .before .before .before .before .before .before .before .before .before .before .before .before .before .before .before .before .before .pre))
+put-columns-requires-2 : tie.Need-put-columns-requires-2
+put-columns-requires-2 c κs = search needs
 
 same-length : tie.Need-same-length
 same-length c = search needs
 
 returns : tie.Need-returns
-returns c =
-    whole.whole (c .before .before .before .before .before .before .before .before .before .before .before .before .before .before .before .before .before .before .before .before .before .before .before .before .before .before .before .before .before .before .before .before .before .before .pre) _ (c .before .before .before .before .before .before .before .before .before .before .before .before .before .before .before .before .before .before .before .before .before .before .before .before .put-head .ensures) (c .before .before .before .before .before .before .before .before .before .before .before .before .before .before .before .before .before .before .before .before .put-counts .ensures) (c .before .before .before .before .before .before .before .before .before .before .before .before .before .before .before .put-reals .ensures) (c .before .before .before .before .before .before .before .before .before .put-pairs .ensures) (c .before .before .put-triples .ensures)
+returns c = whole.whole (c .before .before .before .before .before .before .before .before .before .before .before .before .before .before .before .before .before .before .before .before .before .before .before .before .before .pre) _ (c .before .before .before .before .before .before .before .before .before .before .before .before .before .before .before .before .before .before .before .put-head .ensures) (c .before .before .before .before .before .before .before .before .before .before .before .before .before .before .before .put-counts .ensures) (c .before .before .before .before .before .before .before .before .before .before .put-reals .ensures) (c .before .before .before .before .before .before .put-columns .ensures) (c .before .before .put-columns2 .ensures)
 
 pub put-result-spec : {M : Type 1} → statement M
 put-result-spec =
@@ -89,18 +77,13 @@ put-result-spec =
     add-put-reals
     slice-aggregate-put-reals
     put-reals-requires
-    mul-put-pairs
-    add-put-pairs
-    slice-aggregate-put-pairs
-    slice-aggregate-put-pairs-2
-    put-pairs-requires
-    mul-put-triples
-    add-put-triples
-    mul-put-triples-2
-    add-put-triples-2
-    slice-aggregate-put-triples
-    slice-aggregate-put-triples-2
-    slice-aggregate-put-triples-3
-    put-triples-requires
+    mul-put-columns
+    add-put-columns
+    put-columns-requires
+    mul-put-columns-2
+    add-put-columns-2
+    mul-put-columns-3
+    add-put-columns-3
+    put-columns-requires-2
     same-length
     returns)

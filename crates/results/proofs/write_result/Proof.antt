@@ -1,17 +1,13 @@
-use denote.Ref.{now}
-use Rattle.results.specs.Written.{Fitting}
 use Rattle.results.proofs.Whole as whole
 use borrow.Author.Needs.{needs}
 use Rattle.results.proofs.write_result.Statement.{statement}
 use Rattle.results.proofs.write_result.Tie as tie
-
--- behind the last test
-fits : (c : tie.Else3)
-    → Fitting (now (c .before .before .before .before .before .before .before .before .before .before .before .before .before .before .before .before .args .out)) (now (c .before .before .before .before .before .before .before .before .before .before .before .before .before .before .before .before .args .counts)) (now (c .before .before .before .before .before .before .before .before .before .before .before .before .before .before .before .before .args .areas)) (c .before .before .before .before .before .size .given .0 .0)
-    (now (c .before .before .before .before .before .before .before .before .before .before .before .before .before .before .before .before .args .u)) (now (c .before .before .before .before .before .before .before .before .before .before .before .before .before .before .before .before .args .v)) (now (c .before .before .before .before .before .before .before .before .before .before .before .before .before .before .before .before .args .x)) (now (c .before .before .before .before .before .before .before .before .before .before .before .before .before .before .before .before .args .y)) (now (c .before .before .before .before .before .before .before .before .before .before .before .before .before .before .before .before .args .z))
-fits c =
-    let k = c .before .before .before .before in
-    whole.fitting (whole.sized _ (k .before .size .given .1) (k .before .before .before .result-size .ensures)) (c .before .before .before .if1 .left) (c .before .before .if2 .left) (c .before .least5 .ensures) (c .if3 .left)
+use Rattle.results.proofs.write_result.Reads as reads
+use Rattle.results.proofs.write_result.Lts as lts
+use Rattle.results.proofs.path_byte.Reads as path-byte-reads
+use Rattle.results.proofs.put_result.Reads as put-result-reads
+use Rattle.results.proofs.result_size.Reads as result-size-reads
+use Rattle.tables.proofs.corners.count.Reads as count-reads
 
 result-size-requires : tie.Need-result-size-requires
 result-size-requires c κs = search needs
@@ -26,32 +22,28 @@ returns : tie.Need-returns
 returns c = whole.too-large _ (c .enum-told .given .1) (c .before .before .result-size .ensures)
 
 returns-2 : tie.Need-returns-2
-returns-2 c = let k = c .before in whole.short-out (whole.sized _ (k .before .size .given .1) (k .before .before .before .result-size .ensures)) (c .if1 .taken)
+returns-2 c = whole.short-out (whole.sized _ (c .before .before .size .given .1) (c .before .before .before .before .result-size .ensures)) (c .if1 .taken)
 
 returns-3 : tie.Need-returns-3
-returns-3 c =
-    let k = c .before .before in whole.short-areas (whole.sized _ (k .before .size .given .1) (k .before .before .before .result-size .ensures)) (c .if2 .taken)
+returns-3 c = whole.short-areas (whole.sized _ (c .before .before .before .size .given .1) (c .before .before .before .before .before .result-size .ensures)) (c .if2 .taken)
 
-least5-requires : tie.Need-least5-requires
-least5-requires c κs = search needs
+count-requires : tie.Need-count-requires
+count-requires c κs = search needs
 
 returns-4 : tie.Need-returns-4
-returns-4 c =
-    let k = c .before .before .before .before in whole.short-columns (whole.sized _ (k .before .size .given .1) (k .before .before .before .result-size .ensures)) (c .before .least5 .ensures) (c .if3 .taken)
+returns-4 c = whole.short-columns (whole.sized _ (c .before .before .before .before .before .size .given .1) (c .before .before .before .before .before .before .before .result-size .ensures)) (c .before .count .ensures .0) (c .if3 .taken)
 
 path-byte-requires : tie.Need-path-byte-requires
 path-byte-requires c κs = search needs
 
 put-result-requires : tie.Need-put-result-requires
-put-result-requires c κs = fits (c .before .before)
+put-result-requires c κs = whole.fitting (whole.sized _ (c .before .before .before .before .before .before .before .size .given .1) (c .before .before .before .before .before .before .before .before .before .result-size .ensures)) (c .before .before .before .before .before .if1 .left) (c .before .before .before .before .if2 .left) (c .before .before .before .count .ensures .0) (c .before .before .if3 .left)
 
 same-length : tie.Need-same-length
 same-length c = search needs
 
 returns-5 : tie.Need-returns-5
-returns-5 c =
-    let k = c .before .before .before .before .before .before .before .before .before in
-    whole.done (whole.sized _ (k .before .size .given .1) (k .before .before .before .result-size .ensures)) (fits (c .before .before .before .before .before)) (c .before .before .before .path-byte .ensures) (c .before .before .put-result .ensures)
+returns-5 c = whole.done (whole.sized _ (c .before .before .before .before .before .before .before .before .before .before .size .given .1) (c .before .before .before .before .before .before .before .before .before .before .before .before .result-size .ensures)) (whole.fitting (whole.sized _ (c .before .before .before .before .before .before .before .before .before .before .size .given .1) (c .before .before .before .before .before .before .before .before .before .before .before .before .result-size .ensures)) (c .before .before .before .before .before .before .before .before .if1 .left) (c .before .before .before .before .before .before .before .if2 .left) (c .before .before .before .before .before .before .count .ensures .0) (c .before .before .before .before .before .if3 .left)) (c .before .before .before .path-byte .ensures) (c .before .before .put-result .ensures)
 
 pub write-result-spec : {M : Type 1} → statement M
 write-result-spec =
@@ -63,7 +55,7 @@ write-result-spec =
     returns
     returns-2
     returns-3
-    least5-requires
+    count-requires
     returns-4
     path-byte-requires
     put-result-requires

@@ -1,12 +1,14 @@
 use Prim.Native.Nat.{_-_}
 use Rattle.tables.proofs.Taking.{Taking, taking, taking-turn, taking-end, taking-none}
+use Rattle.numbers.specs.declared.math.Vec3.{Vec3}
+use Rattle.tables.specs.Corners.{Corner}
 use borrow.Author.Needs.{needs}
 use native.Mathlib.Omega.{arith}
 use Rattle.tables.proofs.copies.us_into.Statement.{statement}
 use Rattle.tables.proofs.copies.us_into.Tie as tie
 
 abbrev Inv-loop : tie.InvT-loop
-Inv-loop dst₀ t n i₀ dst i = Taking t dst₀ n dst i
+Inv-loop dst₀ t n i₀ dst i = Taking (λ (c : Corner Vec3). c .u) t dst₀ n dst i
 
 abbrev μ-loop : tie.MeasureT-loop
 μ-loop dst₀ t n i₀ dst i = n - i
@@ -15,10 +17,10 @@ count-requires : tie.Need-count-requires Inv-loop μ-loop
 count-requires c κs = search needs
 
 returns : tie.Need-returns Inv-loop μ-loop
-returns c = taking-none _ _ _ (c .before .count .ensures .0) (c .if1 .taken)
+returns c = taking-none _ _ _ _ (c .before .count .ensures .0) (c .if1 .taken)
 
 loop-holds : tie.Need-loop-holds Inv-loop μ-loop
-loop-holds c = taking _ _ _ (c .before .count .ensures .0) (c .if1 .left)
+loop-holds c = taking _ _ _ _ (c .before .count .ensures .0) (c .if1 .left)
 
 u-at-requires : tie.Need-u-at-requires Inv-loop μ-loop
 u-at-requires c κs = search needs
@@ -36,13 +38,13 @@ loop-less : tie.Need-loop-less Inv-loop μ-loop
 loop-less c = omega arith
 
 loop-again : tie.Need-loop-again Inv-loop μ-loop
-loop-again c = taking-turn _ _ _ _ _ _ (c .before .before .loop .inv) (c .before .loop-test .taken) (c .u-at .ensures)
+loop-again c = taking-turn _ _ _ _ _ _ _ (c .before .before .loop .inv) (c .before .loop-test .taken) (c .u-at .ensures)
 
 same-length : tie.Need-same-length Inv-loop μ-loop
 same-length c = c .before .loop .inv .fill .long
 
 returns-2 : tie.Need-returns-2 Inv-loop μ-loop
-returns-2 c = taking-end _ _ _ _ _ (c .before .loop .inv) (c .loop-test .left)
+returns-2 c = taking-end _ _ _ _ _ _ (c .before .loop .inv) (c .loop-test .left)
 
 pub us-into-spec : {M : Type 1} → statement M
 us-into-spec =
