@@ -1,12 +1,9 @@
-// Which loop of a face is the outer one.
+// What the search for the outer loop asks of a box, of two boxes, and of the areas.
 ghost use mathlib.Core.Path.{_≡_};
 ghost use lib.ListN.{length};
-ghost use Rattle.regions.specs.Table.{boxesFrom};
-ghost use Rattle.regions.specs.Outer.{sideOf, slackOf, encloses, enclosingOne, lastLargest, outerOf};
-ghost use Rattle.regions.specs.ByOutermost.{emptyBox, hullOf, oneIfUnenclosable, outermostOf, enclosesOutermost, theOneAgainst};
+ghost use Rattle.regions.specs.Outer.{sideOf, encloses, lastLargest};
+ghost use Rattle.regions.specs.ByOutermost.{emptyBox, hullOf, oneIfUnenclosable, enclosesOutermost};
 use super::boxes::Bounds;
-use super::boxes::box_at;
-use super::boxes::box_count;
 use numbers::order::abs;
 use numbers::order::max;
 use numbers::order::min;
@@ -15,32 +12,18 @@ use numbers::order::min;
 // the number of those that none can. Within a slack that is not below 0 none encloses a box that does
 // not enclose even itself: an end of it is a NaN, or the slack is infinite and a lower end is -inf or
 // an upper one +inf.
-struct Outermost {
+pub struct Outermost {
     pub ends: Bounds,
     pub unenclosable: usize,
 }
 
-fn longer_side(b: Bounds) -> f64
+pub fn longer_side(b: Bounds) -> f64
     ensures { λ r. ⌜ r ≡ sideOf b ⌝ }
 {
     max(b.uhi - b.ulo, b.vhi - b.vlo)
 }
 
-// 10^-9 of the largest side.
-fn slack_of(ulo: &[f64], uhi: &[f64], vlo: &[f64], vhi: &[f64]) -> f64
-    ensures { λ r. ⌜ r ≡ slackOf (boxesFrom (now (ulo .entry)) (now (uhi .entry)) (now (vlo .entry)) (now (vhi .entry))) ⌝ }
-{
-    let n = box_count(ulo, uhi, vlo, vhi);
-    let mut largest = 0.0;
-    let mut i = 0;
-    while i < n {
-        largest = max(largest, longer_side(box_at(ulo, uhi, vlo, vhi, i)));
-        i += 1;
-    }
-    largest * 1e-9
-}
-
-fn encloses_within(slack: f64, b: Bounds, o: Bounds) -> bool
+pub fn encloses_within(slack: f64, b: Bounds, o: Bounds) -> bool
     ensures { λ r. ⌜ r ≡ encloses slack b o ⌝ }
 {
     if b.ulo <= o.ulo + slack {
@@ -55,7 +38,7 @@ fn encloses_within(slack: f64, b: Bounds, o: Bounds) -> bool
 
 // The outermost ends of no boxes: a lower end that is no NaN is at most +inf, an upper one at least
 // -inf.
-fn empty_box() -> Bounds
+pub fn empty_box() -> Bounds
     ensures { λ r. ⌜ r ≡ emptyBox ⌝ }
 {
     Bounds {
@@ -67,7 +50,7 @@ fn empty_box() -> Bounds
 }
 
 // The outermost ends of two boxes.
-fn hull(a: Bounds, b: Bounds) -> Bounds
+pub fn hull(a: Bounds, b: Bounds) -> Bounds
     ensures { λ r. ⌜ r ≡ hullOf a b ⌝ }
 {
     Bounds {
@@ -85,31 +68,9 @@ fn one_if_unenclosable(slack: f64, b: Bounds) -> usize
     if encloses_within(slack, b, b) { 0 } else { 1 }
 }
 
-fn outermost_of(ulo: &[f64], uhi: &[f64], vlo: &[f64], vhi: &[f64], slack: f64) -> Outermost
-    ensures { λ r. ⌜ r ≡ outermostOf slack (boxesFrom (now (ulo .entry)) (now (uhi .entry)) (now (vlo .entry)) (now (vhi .entry))) ⌝ }
-{
-    let n = box_count(ulo, uhi, vlo, vhi);
-    let mut ends = empty_box();
-    let mut unenclosable = 0;
-    let mut i = 0;
-    while i < n {
-        let b = box_at(ulo, uhi, vlo, vhi, i);
-        i += 1;
-        if encloses_within(slack, b, b) {
-            ends = hull(ends, b);
-        } else {
-            unenclosable += 1;
-        }
-    }
-    Outermost {
-        ends: ends,
-        unenclosable: unenclosable,
-    }
-}
-
 // Whether b, one of two or more boxes, encloses all others: it encloses the outermost ends, and none
 // but b itself is unenclosable.
-fn encloses_outermost(slack: f64, outermost: Outermost, b: Bounds) -> bool
+pub fn encloses_outermost(slack: f64, outermost: Outermost, b: Bounds) -> bool
     ensures { λ r. ⌜ r ≡ enclosesOutermost slack outermost b ⌝ }
 {
     if encloses_within(slack, b, outermost.ends) {
@@ -118,48 +79,7 @@ fn encloses_outermost(slack: f64, outermost: Outermost, b: Bounds) -> bool
     false
 }
 
-// The one box of which `encloses_outermost` is true, and `none` where there is none or several.
-fn the_one_against(
-    ulo: &[f64],
-    uhi: &[f64],
-    vlo: &[f64],
-    vhi: &[f64],
-    slack: f64,
-    outermost: Outermost,
-    none: usize,
-) -> usize
-    ensures { λ r. ⌜ r ≡ theOneAgainst slack outermost (boxesFrom (now (ulo .entry)) (now (uhi .entry)) (now (vlo .entry)) (now (vhi .entry))) none ⌝ }
-{
-    let n = box_count(ulo, uhi, vlo, vhi);
-    let mut found = n;
-    let mut i = 0;
-    while i < n {
-        let k = i;
-        i += 1;
-        if encloses_outermost(slack, outermost, box_at(ulo, uhi, vlo, vhi, k)) {
-            if found < n {
-                return none;
-            }
-            found = k;
-        }
-    }
-    if found < n { found } else { none }
-}
-
-// The one box that encloses all others, and `none` where there is none or several. A box alone has no
-// other to enclose, so it is not tested: with a NaN among its ends it would fail.
-fn enclosing_one(ulo: &[f64], uhi: &[f64], vlo: &[f64], vhi: &[f64], none: usize) -> usize
-    ensures { λ r. ⌜ r ≡ enclosingOne (slackOf (boxesFrom (now (ulo .entry)) (now (uhi .entry)) (now (vlo .entry)) (now (vhi .entry)))) (boxesFrom (now (ulo .entry)) (now (uhi .entry)) (now (vlo .entry)) (now (vhi .entry))) none ⌝ }
-{
-    if box_count(ulo, uhi, vlo, vhi) == 1 {
-        return 0;
-    }
-    let slack = slack_of(ulo, uhi, vlo, vhi);
-    let outermost = outermost_of(ulo, uhi, vlo, vhi, slack);
-    the_one_against(ulo, uhi, vlo, vhi, slack, outermost, none)
-}
-
-fn last_largest(areas: &[f64]) -> usize
+pub fn last_largest(areas: &[f64]) -> usize
     ensures { λ r. ⌜ r ≡ lastLargest (now (areas .entry)) (length (now (areas .entry))) ⌝ }
 {
     let mut best = 0;
@@ -172,11 +92,4 @@ fn last_largest(areas: &[f64]) -> usize
         }
     }
     best
-}
-
-// The loops' boxes, by their four ends, and their areas.
-pub fn outer_loop(ulo: &[f64], uhi: &[f64], vlo: &[f64], vhi: &[f64], areas: &[f64]) -> usize
-    ensures { λ r. ⌜ r ≡ outerOf (boxesFrom (now (ulo .entry)) (now (uhi .entry)) (now (vlo .entry)) (now (vhi .entry))) (now (areas .entry)) ⌝ }
-{
-    enclosing_one(ulo, uhi, vlo, vhi, last_largest(areas))
 }

@@ -1,6 +1,4 @@
 pub mod Sides
-pub mod Positions
-pub mod Lent
 pub mod Meaning
 pub mod Columns
 pub mod Rungs

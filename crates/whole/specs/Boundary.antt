@@ -2,10 +2,9 @@
 -- `full_domain_loop` of face.rs: four sides, of which each leaves its last corner to the next.
 use Prim.Native.Nat.{ℕ, _+_, _-_, _*_, _<_, min, max}
 use mathlib.Core.Path.{_≡_}
-use mathlib.Core.Bool.{Bool, true, false, cond, _&&_}
-use mathlib.Core.List.{List, [], _∷_, _++_, map, reverse, dropLast}
-use lib.Dec.{leb}
-use lib.ListN.{length, getD, take, drop}
+use mathlib.Core.Bool.{Bool, true, false, cond}
+use mathlib.Core.List.{List, [], _++_, map, reverse, dropLast}
+use lib.ListN.{length, getD, drop}
 use lib.Ieee.{Float, nan, le, ne}
 use Rattle.numbers.specs.Constants.{half}
 use Rattle.numbers.specs.Rounded.{_⊕_, _⊗_}
@@ -13,7 +12,6 @@ use Rattle.numbers.specs.declared.math.Frame.{Frame}
 use Rattle.numbers.specs.declared.math.Interval.{Interval}
 use Rattle.numbers.specs.declared.math.Vec2.{Vec2}
 use Rattle.numbers.specs.declared.math.Vec3.{Vec3}
-use Rattle.lists.specs.Placed.{placed}
 use Rattle.surfaces.specs.declared.options.Resolved.{Resolved}
 use Rattle.surfaces.specs.declared.steps.Axis.the-variants.{U, «V»}
 use Rattle.surfaces.specs.declared.surface.Domain.{Domain}
@@ -98,21 +96,6 @@ usOf cs = map (λ (c : Vec2). c .u) cs
 abbrev pub vsOf : List Vec2 → List Float
 vsOf cs = map (λ (c : Vec2). c .v) cs
 
--- the positions of corners that are given by their u and their v
-unfoldable pub positionsOf : Surface → Frame → List Float → List Float → List Vec3
-positionsOf s f [] vs = []
-positionsOf s f (u ∷ us) [] = []
-positionsOf s f (u ∷ us) (v ∷ vs) = positionOf s f (corner u v) ∷ positionsOf s f us vs
-
-abbrev pub xsOf : List Vec3 → List Float
-xsOf ps = map (λ (p : Vec3). p .x) ps
-
-abbrev pub ysOf : List Vec3 → List Float
-ysOf ps = map (λ (p : Vec3). p .y) ps
-
-abbrev pub zsOf : List Vec3 → List Float
-zsOf ps = map (λ (p : Vec3). p .z) ps
-
 unfoldable pub wholePositions : Surface → Frame → Resolved → List Vec3
 wholePositions s f o = map (positionOf s f) (wholeCorners s o)
 
@@ -143,21 +126,3 @@ pub record FourCorners (d : Domain) (us vs : List Float) : Type 0 where
   pub high-low : Stands (d .u .hi) (d .v .lo) us vs
   pub high-high : Stands (d .u .hi) (d .v .hi) us vs
   pub low-high : Stands (d .u .lo) (d .v .hi) us vs
-
--- ---- what is written to five lent lists
-
--- whether each has room for n
-abbrev pub roomInAll : ℕ → List Float → List Float → List Float → List Float → List Float → Bool
-roomInAll n us vs xs ys zs = leb n (length us) && (leb n (length vs) && (leb n (length xs) && (leb n (length ys) && leb n (length zs))))
-
--- whether each has room for the corners
-abbrev pub wholeRoom : Surface → Resolved → List Float → List Float → List Float → List Float → List Float → Bool
-wholeRoom s o us vs xs ys zs = roomInAll (length (wholeCorners s o)) us vs xs ys zs
-
--- w over the front of d, if there is room in all
-abbrev pub lentTo : Bool → List Float → List Float → List Float
-lentTo room w d = cond room (placed 0 w d) d
-
--- 02, N2, of what is written: of a sphere or a torus, if there is room, the front of both lists has the four corners
-abbrev pub ReachesCorners : Surface → Resolved → Bool → List Float → List Float → Type 0
-ReachesCorners s o room us vs = isWhole s ≡ true → room ≡ true → FourCorners (domainOf s) (take (length (wholeCorners s o)) us) (take (length (wholeCorners s o)) vs)

@@ -1,2 +1,3 @@
 pub mod Boundary
 pub mod Values
+pub mod Table

@@ -1,5 +1,5 @@
-// `full_domain_loop` of face.rs: the boundary of a surface that nothing trims, its whole parameter
-// rectangle.
+// The boundary of a surface that nothing trims, its whole parameter rectangle: its parameters, and the
+// position of a corner.
 ghost use mathlib.Core.Path.{_≡_};
 ghost use mathlib.Core.Bool.{cond};
 ghost use mathlib.Core.List.{_++_, map, reverse};
@@ -7,11 +7,8 @@ ghost use Prim.Native.Nat.{_-_, _≤_, _<_};
 ghost use lib.Ieee.{le};
 ghost use lib.ListN.{length, replicate};
 ghost use lib.Seq.{sets};
-ghost use Rattle.numbers.specs.Constants.{plusZero};
-ghost use Rattle.loops.specs.Area.{areaOf};
 ghost use Rattle.loops.specs.Part.{partOf};
-ghost use Rattle.whole.specs.Boundary.{isWhole, clamped, centre, wrapOf, uSteps, vSteps, uRungs, vRungs, UEnds, VEnds, CountEnds, sidesOf, usOf, vsOf, wholeCorners, corner, positionOf, positionsOf, xsOf, ysOf, zsOf, wholePositions, wholeArea, roomInAll, UColumnEnds, VColumnEnds, wholeRoom, lentTo, ReachesCorners};
-use loops::area::signed_area;
+ghost use Rattle.whole.specs.Boundary.{isWhole, clamped, centre, wrapOf, uSteps, vSteps, uRungs, vRungs, UEnds, VEnds, CountEnds, sidesOf, usOf, vsOf, wholeCorners, corner, positionOf, UColumnEnds, VColumnEnds};
 use loops::part::part;
 use loops::stretch::put_backward;
 use loops::stretch::put_forward;
@@ -20,8 +17,6 @@ use numbers::math::Frame;
 use numbers::math::Interval;
 use numbers::math::Vec2;
 use numbers::math::Vec3;
-use slices::put;
-use slices::shorter;
 use surfaces::knots::merge_even;
 use surfaces::knots::merge_even_steps;
 use surfaces::options::Resolved;
@@ -173,7 +168,7 @@ fn v_of_corners(surface: Surface, options: Resolved, su: usize, sv: usize, out: 
 }
 
 // The u and the v of all corners.
-fn put_corners(surface: Surface, options: Resolved, u: &mut [f64], v: &mut [f64])
+pub fn put_corners(surface: Surface, options: Resolved, u: &mut [f64], v: &mut [f64])
     ensures { λ _. ⌜ now (u .exit) ≡ sets (now (u .entry)) 0 (usOf (sidesOf surface options)) ⌝ }
     ensures { λ _. ⌜ now (v .exit) ≡ sets (now (v .entry)) 0 (vsOf (sidesOf surface options)) ⌝ }
     ensures { λ _. ⌜ UColumnEnds surface options (now (u .exit)) × VColumnEnds surface options (now (v .exit)) ⌝ }
@@ -184,7 +179,7 @@ fn put_corners(surface: Surface, options: Resolved, u: &mut [f64], v: &mut [f64]
     v_of_corners(surface, options, su, sv, v);
 }
 
-fn position_at(surface: Surface, frame: Frame, u: f64, v: f64) -> Vec3
+pub fn position_at(surface: Surface, frame: Frame, u: f64, v: f64) -> Vec3
     ensures { λ r. ⌜ r ≡ positionOf surface frame (corner u v) ⌝ }
 {
     let d = surface.domain();
@@ -199,101 +194,4 @@ fn position_at(surface: Surface, frame: Frame, u: f64, v: f64) -> Vec3
             v: wrap(vp, vi, v),
         },
     )
-}
-
-// The positions of the corners that u and v give.
-fn put_positions(
-    surface: Surface,
-    frame: Frame,
-    u: &[f64],
-    v: &[f64],
-    x: &mut [f64],
-    y: &mut [f64],
-    z: &mut [f64],
-)
-    ensures { λ _. ⌜ now (x .exit) ≡ sets (now (x .entry)) 0 (xsOf (positionsOf surface frame (now (u .entry)) (now (v .entry)))) ⌝ }
-    ensures { λ _. ⌜ now (y .exit) ≡ sets (now (y .entry)) 0 (ysOf (positionsOf surface frame (now (u .entry)) (now (v .entry)))) ⌝ }
-    ensures { λ _. ⌜ now (z .exit) ≡ sets (now (z .entry)) 0 (zsOf (positionsOf surface frame (now (u .entry)) (now (v .entry)))) ⌝ }
-{
-    let n = shorter(u.len(), v.len());
-    let mut i = 0;
-    while i < n {
-        let p = position_at(surface, frame, u[i], v[i]);
-        put(x, i, p.x);
-        put(y, i, p.y);
-        put(z, i, p.z);
-        i += 1;
-    }
-}
-
-fn room_in_all(n: usize, u: &[f64], v: &[f64], x: &[f64], y: &[f64], z: &[f64]) -> bool
-    ensures { λ r. ⌜ r ≡ roomInAll n (now (u .entry)) (now (v .entry)) (now (x .entry)) (now (y .entry)) (now (z .entry)) ⌝ }
-{
-    if u.len() < n {
-        return false;
-    }
-    if v.len() < n {
-        return false;
-    }
-    if x.len() < n {
-        return false;
-    }
-    if y.len() < n {
-        return false;
-    }
-    n <= z.len()
-}
-
-// All five of the corners, as many as there is room for, and the area of the first n.
-fn put_boundary(
-    surface: Surface,
-    frame: Frame,
-    options: Resolved,
-    n: usize,
-    u: &mut [f64],
-    v: &mut [f64],
-    x: &mut [f64],
-    y: &mut [f64],
-    z: &mut [f64],
-) -> f64
-    ensures { λ r. ⌜ r ≡ areaOf (partOf 0 n (now (u .exit))) (partOf 0 n (now (v .exit))) ⌝ }
-    ensures { λ _. ⌜ now (u .exit) ≡ sets (now (u .entry)) 0 (usOf (sidesOf surface options)) ⌝ }
-    ensures { λ _. ⌜ now (v .exit) ≡ sets (now (v .entry)) 0 (vsOf (sidesOf surface options)) ⌝ }
-    ensures { λ _. ⌜ now (x .exit) ≡ sets (now (x .entry)) 0 (xsOf (positionsOf surface frame (partOf 0 n (now (u .exit))) (partOf 0 n (now (v .exit))))) ⌝ }
-    ensures { λ _. ⌜ now (y .exit) ≡ sets (now (y .entry)) 0 (ysOf (positionsOf surface frame (partOf 0 n (now (u .exit))) (partOf 0 n (now (v .exit))))) ⌝ }
-    ensures { λ _. ⌜ now (z .exit) ≡ sets (now (z .entry)) 0 (zsOf (positionsOf surface frame (partOf 0 n (now (u .exit))) (partOf 0 n (now (v .exit))))) ⌝ }
-{
-    put_corners(surface, options, u, v);
-    put_positions(surface, frame, part(u, 0, n), part(v, 0, n), x, y, z);
-    signed_area(part(u, 0, n), part(v, 0, n))
-}
-
-// Writes the parameters and positions of the boundary, and answers its area. Where one of the slices
-// is too short nothing is written, and the answer is 0.0.
-pub fn full_domain_loop(
-    surface: Surface,
-    frame: Frame,
-    options: Resolved,
-    u: &mut [f64],
-    v: &mut [f64],
-    x: &mut [f64],
-    y: &mut [f64],
-    z: &mut [f64],
-) -> f64
-    ensures { λ _. ⌜ ReachesCorners surface options (wholeRoom surface options (now (u .entry)) (now (v .entry)) (now (x .entry)) (now (y .entry)) (now (z .entry))) (now (u .exit)) (now (v .exit)) ⌝ }
-    ensures { λ r. ⌜ r ≡ cond (wholeRoom surface options (now (u .entry)) (now (v .entry)) (now (x .entry)) (now (y .entry)) (now (z .entry))) (wholeArea surface options) plusZero ⌝ }
-    ensures { λ _. ⌜ now (u .exit) ≡ lentTo (wholeRoom surface options (now (u .entry)) (now (v .entry)) (now (x .entry)) (now (y .entry)) (now (z .entry))) (usOf (wholeCorners surface options)) (now (u .entry)) ⌝ }
-    ensures { λ _. ⌜ now (v .exit) ≡ lentTo (wholeRoom surface options (now (u .entry)) (now (v .entry)) (now (x .entry)) (now (y .entry)) (now (z .entry))) (vsOf (wholeCorners surface options)) (now (v .entry)) ⌝ }
-    ensures { λ _. ⌜ now (x .exit) ≡ lentTo (wholeRoom surface options (now (u .entry)) (now (v .entry)) (now (x .entry)) (now (y .entry)) (now (z .entry))) (xsOf (wholePositions surface frame options)) (now (x .entry)) ⌝ }
-    ensures { λ _. ⌜ now (y .exit) ≡ lentTo (wholeRoom surface options (now (u .entry)) (now (v .entry)) (now (x .entry)) (now (y .entry)) (now (z .entry))) (ysOf (wholePositions surface frame options)) (now (y .entry)) ⌝ }
-    ensures { λ _. ⌜ now (z .exit) ≡ lentTo (wholeRoom surface options (now (u .entry)) (now (v .entry)) (now (x .entry)) (now (y .entry)) (now (z .entry))) (zsOf (wholePositions surface frame options)) (now (z .entry)) ⌝ }
-{
-    let n = full_domain_count(surface, options);
-    if n == 0 {
-        return 0.0;
-    }
-    if room_in_all(n, u, v, x, y, z) {
-        return put_boundary(surface, frame, options, n, u, v, x, y, z);
-    }
-    0.0
 }

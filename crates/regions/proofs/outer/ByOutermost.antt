@@ -7,17 +7,15 @@ use mathlib.Core.Path.{_≡_, refl, ap, _∙_}
 use mathlib.Core.Bool.{Bool, true, false, cond, _||_}
 use mathlib.Core.List.{List}
 use lib.Dec.{T, eqb, eqb→eq, eqb-refl}
-use lib.ListN.{length, getD}
+use lib.ListN.{length}
 use borrow.Author.Tests.{eqb-true, eqb-false, eq-eqb, ne-eqb}
-use lib.Ieee.{Float, nan, binary64, le, fits}
+use lib.Ieee.{Float, le}
 use lib.Ieee.Fits.{and-i, and-l, and-r}
 use Rattle.numbers.proofs.Monotone.{Zero}
 use Rattle.regions.specs.declared.boxes.Bounds.{Bounds}
 use Rattle.regions.specs.declared.outer.Outermost.{Outermost}
 use Rattle.regions.specs.Outer.{slackOf, encloses, boxAt, every, passing, theOne, enclosesOther, enclosesOthers, enclosingOne}
 use Rattle.regions.specs.ByOutermost.{emptyBox, hullOf, enclosable, oneIfUnenclosable, endsAmong, unenclosableAmong, outermostOf, enclosesOutermost, enclosesOutermostAt, theOneAgainst, byOutermost}
-use Rattle.regions.specs.Table.{boxesFrom}
-use Rattle.regions.proofs.boxes.Laws.{box-within, box-past}
 use Rattle.regions.proofs.outer.Enclosing.{Fits, Encloses, Movable, tests, tested, movable, hull-movable, hull-enclosed, hull-each, empty-movable, empty-enclosed, enclosed-enclosable, slack-nonneg}
 
 -- ---- tests
@@ -260,23 +258,3 @@ module _ (boxes : List Bounds) (none n : ℕ) (all : n ≡ length boxes) where
       → (x : ℕ) → x ≡ theOneAgainst slack outermost boxes none → x ≡ byOutermost boxes none
   unfolding byOutermost
   other-answer d slack p outermost q x e = rw (ne-eqb (length boxes) 1 (λ o. d (all ∙ o)), ← p, ← q) e
-
--- ---- over four slices of ends
-abbrev AllFit : List Float → Type 0
-AllFit xs = (i : ℕ) → T (fits binary64 (getD xs i nan))
-
-module _ (ul uh vl vh : List Float) (p : AllFit ul) (q : AllFit uh) (r : AllFit vl) (s : AllFit vh) where
-  abbrev boxes : List Bounds
-  boxes = boxesFrom ul uh vl vh
-
-  boxes-fit : (j : ℕ) → Fits (boxAt boxes j)
-  boxes-fit j = go (decLe (suc j) (length boxes))
-    where
-      go : Dec (j < length boxes) → Fits (boxAt boxes j)
-      go (yes h) = rw (box-within ul uh vl vh j h) (record { ulo = p j; uhi = q j; vlo = r j; vhi = s j })
-      go (no h) =
-          let past = box-past ul uh vl vh (length boxes) j refl (omega arith) in
-          rw (← past) (unfold fits in record { ulo = tt; uhi = tt; vlo = tt; vhi = tt })
-
-  pub slices-found : (none x : ℕ) → x ≡ byOutermost boxes none → x ≡ enclosingOne (slackOf boxes) boxes none
-  slices-found none x e = e ∙ by-outermost boxes boxes-fit none

@@ -1,28 +1,24 @@
 -- The corners of a whole surface: the four corners of its domain are among them.
-use Prim.Native.Nat.{ℕ, zero, suc, _+_, _≤_, _<_}
+use Prim.Native.Nat.{ℕ, _+_, _<_}
 use mathlib.Core.Path.{_≡_, refl, sym, ap, _∙_, subst}
-use mathlib.Core.Bool.{Bool, true, true≢false}
-use mathlib.Core.List.{List, [], _∷_, _++_, map, reverse}
+use mathlib.Core.Bool.{true, true≢false}
+use mathlib.Core.List.{List, _∷_, _++_, map, reverse}
 use native.Mathlib.Omega.{arith}
 use lib.Ieee.{Float, nan, neg}
-use lib.ListN.{length, getD, take, length-append, length-map, List·getD-map}
+use lib.ListN.{length, getD, length-append, length-map, List·getD-map}
 use lib.Seq.{getD-append-add}
 use Rattle.numbers.specs.Constants.{plusZero, H, TAU}
-use Rattle.numbers.specs.declared.math.Frame.{Frame}
 use Rattle.numbers.specs.declared.math.Interval.{Interval}
 use Rattle.numbers.specs.declared.math.Vec2.{Vec2}
-use Rattle.lists.specs.Placed.{placed}
-use Rattle.lists.proofs.Placed.{front-placed}
 use Rattle.surfaces.specs.declared.options.Resolved.{Resolved}
 use Rattle.surfaces.specs.declared.surface.Domain.{Domain}
 use Rattle.surfaces.specs.declared.surface.Surface.{Surface}
 use Rattle.surfaces.specs.declared.surface.Surface.the-variants.{Plane, Cylinder, Cone, Sphere, Torus}
-use Rattle.surfaces.specs.Domains.{fullTurn, domainOf}
+use Rattle.surfaces.specs.Domains.{domainOf}
 use Rattle.surfaces.specs.Rungs.{rungs, inner}
 use Rattle.surfaces.proofs.knots.Ended.{drop-added}
-use Rattle.whole.specs.Boundary.{isWhole, clamped, corner, sides, sidesOf, uSteps, vSteps, uRungs, vRungs, wholeCorners, usOf, vsOf, Stands, FourCorners, wholeRoom, lentTo, ReachesCorners}
-use Rattle.whole.proofs.boundary.Lent.{rooms, Left}
-use Rattle.whole.proofs.boundary.Rungs.{allRungs, backward, quarters, turn-rungs, sphere-rungs}
+use Rattle.whole.specs.Boundary.{isWhole, clamped, corner, sides, sidesOf, uSteps, vSteps, uRungs, vRungs, wholeCorners, usOf, vsOf, Stands, FourCorners}
+use Rattle.whole.proofs.boundary.Rungs.{allRungs, backward, turn-rungs, sphere-rungs}
 
 -- ---- a corner that stands in a list
 
@@ -117,27 +113,3 @@ four-corners (Cylinder R) o e = absurd (true≢false (sym e))
 four-corners (Cone R a) o e = absurd (true≢false (sym e))
 four-corners (Sphere R) o e = rectangle (domainOf (Sphere R)) (turnInner _) (inner (rungs (neg H) H (clamped _))) (turn-rungs _) (sphere-rungs _)
 four-corners (Torus R r) o e = rectangle (domainOf (Torus R r)) (turnInner _) (turnInner _) (turn-rungs _) (turn-rungs _)
-
--- ---- where they are written
-
-module _ (s : Surface) (o : Resolved) (us vs xs ys zs : List Float) where
-  front : (n : ℕ) (w d d′ : List Float) (t : Bool) → n ≡ length w → n ≤ length d → d′ ≡ lentTo t w d → t ≡ true → take n d′ ≡ w
-  front n w d d′ t e h is room =
-      ap (take n) (is ∙ ap (λ (u : Bool). lentTo u w d) room) ∙ ap (λ (k : ℕ). take k (placed 0 w d)) e ∙ front-placed w d (omega arith)
-
-  reaches : (us′ vs′ : List Float) → us′ ≡ lentTo (wholeRoom s o us vs xs ys zs) (usOf (wholeCorners s o)) us
-      → vs′ ≡ lentTo (wholeRoom s o us vs xs ys zs) (vsOf (wholeCorners s o)) vs → ReachesCorners s o (wholeRoom s o us vs xs ys zs) us′ vs′
-  reaches us′ vs′ p q whole room =
-      let cs = wholeCorners s o in
-      let n = length cs in
-      let w = rooms n us vs xs ys zs room in
-      let at-u = front n (usOf cs) us us′ _ (sym (length-map cs (λ (c : Vec2). c .u))) (w .in-us) p room in
-      let at-v = front n (vsOf cs) vs vs′ _ (sym (length-map cs (λ (c : Vec2). c .v))) (w .in-vs) q room in
-      subst (λ (l : List Float). FourCorners (domainOf s) l (take n vs′)) (sym at-u)
-      (subst (FourCorners (domainOf s) (usOf cs)) (sym at-v) (four-corners s o whole))
-
--- what `full_domain_loop` answers and leaves, with the corners that it reaches
-pub with-corners : (s : Surface) (f : Frame) (o : Resolved) (us vs xs ys zs : List Float) (r : Float) (us′ vs′ xs′ ys′ zs′ : List Float)
-    → Left s f o us vs xs ys zs r us′ vs′ xs′ ys′ zs′
-    → ReachesCorners s o (wholeRoom s o us vs xs ys zs) us′ vs′ × Left s f o us vs xs ys zs r us′ vs′ xs′ ys′ zs′
-with-corners s f o us vs xs ys zs r us′ vs′ xs′ ys′ zs′ left = (reaches s o us vs xs ys zs us′ vs′ (left .1 .0) (left .1 .1 .0), left)

@@ -1,4 +1,0 @@
-pub mod Behind
-pub mod Holes
-pub mod Answers
-pub mod Closing

@@ -1,3 +1,0 @@
-pub mod Table
-pub mod First
-pub mod Path

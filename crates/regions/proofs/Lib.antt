@@ -1,0 +1,4 @@
+pub mod EachPiece
+pub mod BoxTable
+pub mod OuterAmong
+pub mod MovedHoles

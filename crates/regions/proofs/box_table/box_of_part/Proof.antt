@@ -1,0 +1,44 @@
+use Rattle.tables.proofs.Rows.{length-rows, rows-part}
+use Rattle.regions.specs.Loops.{boxIn}
+use mathlib.Core.Path.{ap, _∙_}
+use native.Mathlib.Omega.{arith}
+use borrow.Author.Needs.{needs}
+use Rattle.regions.proofs.box_table.box_of_part.Statement.{statement}
+use Rattle.regions.proofs.box_table.box_of_part.Tie as tie
+
+mul-a : tie.Need-mul-a
+mul-a c = omega (arith, length-rows (c .before .args .t .now))
+
+mul-e : tie.Need-mul-e
+mul-e c = omega (arith, length-rows (c .before .args .t .now))
+
+mul-box-of : tie.Need-mul-box-of
+mul-box-of c = omega (arith, length-rows (c .before .args .t .now))
+
+sub-box-of : tie.Need-sub-box-of
+sub-box-of c = search needs
+
+part-box-of-start : tie.Need-part-box-of-start
+part-box-of-start c = search needs
+
+part-box-of-end : tie.Need-part-box-of-end
+part-box-of-end c = omega (arith, length-rows (c .before .args .t .now))
+
+box-of-requires : tie.Need-box-of-requires
+box-of-requires c κs = search needs
+
+returns : tie.Need-returns
+returns c = c .box-of .ensures ∙ ap boxIn (rows-part (c .before .before .before .args .from) (c .before .before .before .args .to) (c .before .before .before .args .t .now))
+
+pub box-of-part-spec : {M : Type 1} → statement M
+box-of-part-spec =
+    tie.close
+    (tie.spec
+    mul-a
+    mul-e
+    mul-box-of
+    sub-box-of
+    part-box-of-start
+    part-box-of-end
+    box-of-requires
+    returns)
