@@ -2,7 +2,7 @@
 use Prim.Native.Nat.{ℕ}
 use mathlib.Core.Path.{_≡_}
 use mathlib.Core.Bool.{Bool}
-use mathlib.Core.List.{List, map}
+use mathlib.Core.List.{List}
 use lib.Ieee.{Float}
 use Rattle.numbers.specs.Position.{same}
 use Rattle.numbers.specs.declared.math.Vec3.{Vec3}
@@ -13,17 +13,9 @@ use Rattle.surfaces.specs.Domains.{vPeriod}
 use Rattle.surfaces.specs.Points.{pointOf}
 use Rattle.surfaces.specs.Rungs.{keptDivisions, rungs}
 use Rattle.surfaces.specs.Steps.{vStepsOf}
-use Rattle.tables.specs.Corners.{Corner, Corners, us, vs}
+use Rattle.tables.specs.Corners.{Corners, us, vs}
+pub use Rattle.tables.specs.Corners.{xs, ys, zs}
 use Rattle.bands.specs.Strip.{Setting, ladder, heights}
-
-abbrev pub xs : Corners Vec3 → List Float
-xs r = map (λ (c : Corner Vec3). c .at .x) r
-
-abbrev pub ys : Corners Vec3 → List Float
-ys r = map (λ (c : Corner Vec3). c .at .y) r
-
-abbrev pub zs : Corners Vec3 → List Float
-zs r = map (λ (c : Corner Vec3). c .at .z) r
 
 -- five lists hold the corners r
 pub record Columns (r : Corners Vec3) (u v x y z : List Float) : Type 0 where

@@ -1,3 +1,2 @@
 pub mod Holes
 pub mod Gap
-pub mod Reseam

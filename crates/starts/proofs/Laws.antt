@@ -1,17 +1,13 @@
 -- Two rings put to a start, on plain lists and numbers.
 use Prim.Native.Nat.{ℕ, _+_, _-_, _≤_, _<_}
 use mathlib.Core.Path.{_≡_, refl, sym, ap, _∙_}
-use mathlib.Core.Bool.{Bool, true, false, cond}
-use mathlib.Core.List.{List, _++_}
+use mathlib.Core.Bool.{Bool, true, false}
+use mathlib.Core.List.{List}
 use native.Mathlib.Omega.{arith}
-use borrow.Author.Tests.{lt-ltb, le-ltb}
-use lib.Dec.{ltb}
 use lib.Ieee.{Float, nan}
 use lib.ListN.{length, getD, take, drop}
-use Rattle.lists.specs.Parts.{onPart}
 use Rattle.lists.specs.Placed.{placed}
-use Rattle.lists.proofs.Parts.{part-is}
-use Rattle.lists.proofs.Placed.{length-placed, on-placed, read-placed, before-placed}
+use Rattle.lists.proofs.Placed.{length-placed, read-placed, before-placed}
 use Rattle.numbers.specs.Rounded.{_⊕_, _⊖_}
 use Rattle.loops.specs.Branch.{branchShift}
 use Rattle.tables.specs.declared.moves.Move.the-variants.{Up, Down}
@@ -19,17 +15,9 @@ use Rattle.rings.specs.Choices.{firstOf, firstFrom, nearest, beginsBackward, se
 use Rattle.tables.specs.Moves.{movedBy}
 use Rattle.tables.specs.Moves.{unlessZero}
 use Rattle.rings.specs.Turns.{beginRingAt, alignAt}
-use Rattle.rings.specs.Starts.{raise, alignedU, slidU, firstFor, laterFor, serves, firstServing, start}
+use Rattle.rings.specs.Starts.{raise, alignedU, slidU, firstFor, laterFor, serves, firstServing}
 use Rattle.rings.proofs.Decisions.{Seeking, seeking, seeking-turn, seeking-found, seeking-end, serve-backward}
 use Rattle.rings.proofs.Lengths.{length-beginRingAt, length-alignAt, length-unlessZero}
-use Rattle.starts.specs.declared.Search.the-variants.{Found, NoRoom}
-use Rattle.starts.specs.Search.{served, tried, searchOf}
-
--- a copy in a trial, on which a call has done f where it stands
-pub copy-changed : (f : List Float → List Float) (at e : ℕ) (us d d₁ us′ : List Float) → length (f us) ≡ length us → at + length us ≡ e → e ≤ length d
-    → d₁ ≡ placed at us d → us′ ≡ f (take (e - at) (drop at d₁)) → take at d₁ ++ (us′ ++ drop (e - at) (drop at d₁)) ≡ placed at (f us) d
-copy-changed f at e us d d₁ us′ same end-is room copied done =
-    part-is f at e d₁ us′ done ∙ ap (onPart f at e) copied ∙ on-placed at e us d end-is room f same
 
 module _ (period : Float) where
   pub begun-for : (k : ℕ) (us us′ : List Float) → us′ ≡ beginRingAt (movedBy (Up period)) k us → us′ ≡ firstFor period k us
@@ -144,33 +132,3 @@ module _ (period : Float) (first later : List Float) where
 
       pub trying-end : all ≤ k → all ≡ firstServing period first later
       trying-end h = sym (seeking-end (serves period first later) all k (s .seek) h) ∙ serving
-
--- ---- the answer
-
-module _ (period : Float) (first later : List Float) (room : ℕ) where
-  pub no-room : room < length first + length later → NoRoom ≡ searchOf period first later room
-  unfolding searchOf
-  no-room h = sym (rw (lt-ltb room (length first + length later) h))
-
-  module _ (fits : length first + length later ≤ room) (k all : ℕ) (k-is : k ≡ firstServing period first later) (all-is : all ≡ length first - 1) where
-    tested : (t : Bool) → ltb k all ≡ t → served period first later ≡ t
-    unfolding served
-    tested t e = (λ i. ltb (sym k-is i) (sym all-is i)) ∙ e
-
-    found : (t : Bool) → served period first later ≡ t
-        → searchOf period first later room ≡ Found (cond t k (cond (beginsBackward first) 1 0)) (cond t (k + 1) all) t
-    unfolding searchOf served tried start
-    found t e =
-        rw (le-ltb room (length first + length later) fits)
-        (λ i. Found (cond (e i) (sym k-is i) (cond (beginsBackward first) 1 0)) (cond (e i) (sym k-is i + 1) (sym all-is i)) (e i))
-
-    pub one-served : k < all → Found k (k + 1) true ≡ searchOf period first later room
-    one-served h = sym (found true (tested true (lt-ltb k all h)))
-
-    pub none-served : (b t : Bool) → all ≤ k → b ≡ beginsBackward first → b ≡ t → Found (cond t 1 0) all false ≡ searchOf period first later room
-    none-served b t h e f =
-        sym (found false (tested false (le-ltb k all h)) ∙ ap (λ (s : Bool). Found (cond s 1 0) all false) (sym e ∙ f))
-
--- where there is room, nothing is said of a trial that is too short
-pub not-less : (T : Type 0) (room need : ℕ) → need ≤ room → room < need → T
-not-less T room need fits short = absurd (omega arith)

@@ -4,10 +4,7 @@ use mathlib.Core.Bool.{Bool, cond}
 use mathlib.Core.List.{List}
 use lib.Dec.{ltb}
 use lib.Ieee.{Float}
-use lib.ListN.{length}
-use Rattle.rings.specs.Starts.{starts, firstServing, start}
-use Rattle.starts.specs.declared.Search.{Search}
-use Rattle.starts.specs.declared.Search.the-variants.{Found, NoRoom}
+use Rattle.rings.specs.Starts.{starts, firstServing}
 
 module _ (period : Float) (first later : List Float) where
   -- whether one "neither begins backward nor leaves a constant-u step on the seam"
@@ -17,7 +14,3 @@ module _ (period : Float) (first later : List Float) where
   -- how many were tried: "the number of the chosen start plus one, or all where none serves"
   unfoldable pub tried : ℕ
   tried = cond served (firstServing period first later + 1) (starts period first)
-
-  -- "A trial is worked on a copy": of both rings, so their u must fit into the room that is lent
-  unfoldable pub searchOf : ℕ → Search
-  searchOf room = cond (ltb room (length first + length later)) NoRoom (Found (start period first later) tried served)

@@ -1,2 +1,3 @@
-pub mod Layout
-pub mod Walls
+pub mod Count
+pub mod Corners
+pub mod Closing

@@ -1,3 +1,6 @@
-// The strip between two rings of a band, in parallel slices of any length: 01, "Bands".
-pub mod layout;
+// The strip between two rings of a band, in a corner table: 01, "Bands".
+pub mod closing;
+pub mod corners;
+pub mod count;
+pub mod repeats;
 pub mod walls;

@@ -23,7 +23,6 @@ use Rattle.lists.proofs.Placed.{placed-fits, placed-short}
 use Rattle.bands.specs.Columns.{ladderOn, heightsOn, heightsKept}
 use Rattle.bands.specs.Strip.{ladder, heights}
 use Rattle.bands.proofs.Walls.{heights-kept}
-use Rattle.strip.specs.Walls.{xsAt, ysAt, zsAt}
 
 -- ---- heights
 
@@ -86,70 +85,3 @@ module _ (s : Surface) (o : Resolved) (a b : Float) where
           let head : take n e ≡ l = ap (take n) front ∙ take-at l (drop n d) n (sym long) in
           let tail : drop n e ≡ drop n d = ap (drop n) front ∙ drop-at l (drop n d) n (sym long) in
           (λ i. (turned ∙ ap reverse head) i ++ tail i) ∙ sym (goal false order)
-
--- ---- a loop that stores w into the front of d₀, as far as there is room
-
-sets-snoc : (vs l : List Float) (at : ℕ) (x : Float) → set (sets l at vs) (at + length vs) x ≡ sets l at (vs ++ (x ∷ []))
-sets-snoc [] l at x = ap (λ (k : ℕ). set l k x) (add-zero at)
-sets-snoc (v ∷ vs) l at x =
-    let place : at + suc (length vs) ≡ suc at + length vs = omega arith in
-    ap (λ (k : ℕ). set (sets (set l at v) (suc at) vs) k x) place ∙ sets-snoc vs (set l at v) (suc at) x
-
-pub record Storing (w d₀ d : List Float) (i : ℕ) : Type 0 where
-  pub long : length d ≡ length d₀
-  pub is : d ≡ sets d₀ 0 (take i w)
-
-module _ (w d₀ : List Float) where
-  storing : Storing w d₀ d₀ 0
-  storing = record { long = refl; is = refl }
-
-  storing-turn : (d e : List Float) (i : ℕ) (x : Float) → Storing w d₀ d i → i < length w → x ≡ getD w i nan → e ≡ set d i x → Storing w d₀ e (i + 1)
-  storing-turn d e i x s h at f =
-      let place : i ≡ 0 + length (take i w) = omega (arith, length-take-le i w (omega arith)) in
-      let next : take i w ++ (getD w i nan ∷ []) ≡ take (i + 1) w = sym (take-suc w i nan h) ∙ ap (λ (k : ℕ). take k w) (sym (add-one i)) in
-      let is : e ≡ sets d₀ 0 (take (i + 1) w) =
-      f ∙ (λ j. set (s .is j) (place j) (at j)) ∙ sets-snoc (take i w) d₀ 0 (getD w i nan) ∙ ap (sets d₀ 0) next in
-      record { long = ap length is ∙ length-sets d₀ 0 (take (i + 1) w); is = is }
-
-  storing-end : (d : List Float) (i : ℕ) → Storing w d₀ d i → length w ≤ i → d ≡ sets d₀ 0 w
-  storing-end d i s h = s .is ∙ ap (sets d₀ 0) (take-all i w h)
-
--- ---- the loop of `wall_positions`
-
-module _ (frame : Frame) (s : Surface) (u : Float) (vs xs₀ ys₀ zs₀ : List Float) where
-  pub record Standing (xs ys zs : List Float) (i : ℕ) : Type 0 where
-    pub x : Storing (xsAt frame s u vs) xs₀ xs i
-    pub y : Storing (ysAt frame s u vs) ys₀ ys i
-    pub z : Storing (zsAt frame s u vs) zs₀ zs i
-
-  pub standing : Standing xs₀ ys₀ zs₀ 0
-  standing = record { x = storing _ _; y = storing _ _; z = storing _ _ }
-
-  module _ (xs ys zs : List Float) (i : ℕ) (w : Standing xs ys zs i) where
-    pub standing-turn : (xs′ ys′ zs′ : List Float) (p : Vec3) → i < length vs → p ≡ pointOf frame s u (getD vs i nan)
-        → xs′ ≡ set xs i (p .x)
-        → ys′ ≡ set ys i (p .y)
-        → zs′ ≡ set zs i (p .z)
-        → Standing xs′ ys′ zs′ (i + 1)
-    unfolding xsAt ysAt zsAt
-    standing-turn xs′ ys′ zs′ p h is ex ey ez = record {
-      x = storing-turn (xsAt frame s u vs) xs₀ xs xs′ i (p .x) (w .x) (far (λ q. q .x)) (ap (λ (q : Vec3). q .x) is ∙ there (λ q. q .x)) ex;
-      y = storing-turn (ysAt frame s u vs) ys₀ ys ys′ i (p .y) (w .y) (far (λ q. q .y)) (ap (λ (q : Vec3). q .y) is ∙ there (λ q. q .y)) ey;
-      z = storing-turn (zsAt frame s u vs) zs₀ zs zs′ i (p .z) (w .z) (far (λ q. q .z)) (ap (λ (q : Vec3). q .z) is ∙ there (λ q. q .z)) ez;
-    }
-      where
-        there : (g : Vec3 → Float) → g (pointOf frame s u (getD vs i nan)) ≡ getD (map (λ v. g (pointOf frame s u v)) vs) i nan
-        there g = sym (getD-map (λ v. g (pointOf frame s u v)) vs i nan nan h)
-
-        far : (g : Vec3 → Float) → i < length (map (λ v. g (pointOf frame s u v)) vs)
-        far g = omega (arith, length-map vs (λ v. g (pointOf frame s u v)))
-
-    pub standing-end : length vs ≤ i → (xs ≡ sets xs₀ 0 (xsAt frame s u vs)) × ((ys ≡ sets ys₀ 0 (ysAt frame s u vs)) × (zs ≡ sets zs₀ 0 (zsAt frame s u vs)))
-    unfolding xsAt ysAt zsAt
-    standing-end h = (
-      storing-end (xsAt frame s u vs) xs₀ xs i (w .x) (all (λ q. q .x)),
-      (storing-end (ysAt frame s u vs) ys₀ ys i (w .y) (all (λ q. q .y)), storing-end (zsAt frame s u vs) zs₀ zs i (w .z) (all (λ q. q .z))),
-    )
-      where
-        all : (g : Vec3 → Float) → length (map (λ v. g (pointOf frame s u v)) vs) ≤ i
-        all g = omega (arith, length-map vs (λ v. g (pointOf frame s u v)))

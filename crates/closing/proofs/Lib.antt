@@ -1,4 +1,0 @@
-pub mod Fronts
-pub mod StripColumns
-pub mod BandColumns
-pub mod Laws

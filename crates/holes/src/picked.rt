@@ -1,0 +1,82 @@
+// One value of each loop, its count or its area: those of the holes, which are all loops but those of
+// number a and b. What does not fit is not written.
+ghost use mathlib.Core.Path.{_≡_};
+ghost use mathlib.Core.List.{List};
+ghost use Prim.Native.Nat.{ℕ, _+_};
+ghost use lib.Dec.{leb};
+ghost use lib.ListN.{length};
+ghost use Rattle.lists.specs.Placed.{placed};
+ghost use Rattle.holes.specs.Others.{isRing, others};
+
+pub fn is_ring(i: usize, a: usize, b: usize) -> bool
+    ensures { λ r. ⌜ r ≡ isRing a b i ⌝ }
+{
+    if i == a {
+        return true;
+    }
+    i == b
+}
+
+// Whether n places from `at` on are within `room`, without a sum that could wrap.
+pub fn has_room(room: usize, at: usize, n: usize) -> bool
+    ensures { λ r. ⌜ r ≡ leb (at + n) room ⌝ }
+{
+    if room < n {
+        return false;
+    }
+    at <= room - n
+}
+
+// How many of n loops are holes.
+pub fn count_holes(n: usize, a: usize, b: usize) -> usize
+    ensures { λ r. ⌜ ((loops : List ℕ) → length loops ≡ n → r ≡ length (others a b loops)) ⌝ }
+{
+    let mut k = 0;
+    let mut i = 0;
+    while i < n {
+        let j = i;
+        i += 1;
+        if !is_ring(j, a, b) {
+            k += 1;
+        }
+    }
+    k
+}
+
+// The numbers of points of the holes into dst from `at` on.
+pub fn pick_counts(dst: &mut [usize], at: usize, src: &[usize], a: usize, b: usize)
+    ensures { λ _. ⌜ now (dst .exit) ≡ placed at (others a b (now (src .entry))) (now (dst .entry)) ⌝ }
+{
+    if !has_room(dst.len(), at, count_holes(src.len(), a, b)) {
+        return;
+    }
+    let mut k = 0;
+    let mut i = 0;
+    while i < src.len() {
+        let j = i;
+        i += 1;
+        if !is_ring(j, a, b) {
+            dst[at + k] = src[j];
+            k += 1;
+        }
+    }
+}
+
+// Their areas.
+pub fn pick_areas(dst: &mut [f64], at: usize, src: &[f64], a: usize, b: usize)
+    ensures { λ _. ⌜ now (dst .exit) ≡ placed at (others a b (now (src .entry))) (now (dst .entry)) ⌝ }
+{
+    if !has_room(dst.len(), at, count_holes(src.len(), a, b)) {
+        return;
+    }
+    let mut k = 0;
+    let mut i = 0;
+    while i < src.len() {
+        let j = i;
+        i += 1;
+        if !is_ring(j, a, b) {
+            dst[at + k] = src[j];
+            k += 1;
+        }
+    }
+}

@@ -1,5 +1,0 @@
-pub mod Held
-pub mod Carrying
-pub mod Placing
-pub mod Reseaming
-pub mod Joins

@@ -1,0 +1,4 @@
+pub mod Steps
+pub mod EachHole
+pub mod Reseaming
+pub mod Starting

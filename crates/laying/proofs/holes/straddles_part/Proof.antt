@@ -1,0 +1,43 @@
+use Rattle.tables.proofs.Rows.{length-rows}
+use native.Mathlib.Omega.{arith}
+use Rattle.laying.proofs.EachHole.{straddles-in}
+use borrow.Author.Needs.{needs}
+use Rattle.laying.proofs.holes.straddles_part.Statement.{statement}
+use Rattle.laying.proofs.holes.straddles_part.Tie as tie
+
+mul-a : tie.Need-mul-a
+mul-a c = omega (arith, length-rows (c .before .args .t .now))
+
+mul-e : tie.Need-mul-e
+mul-e c = omega (arith, length-rows (c .before .args .t .now))
+
+mul-straddles : tie.Need-mul-straddles
+mul-straddles c = omega (arith, length-rows (c .before .args .t .now))
+
+sub-straddles : tie.Need-sub-straddles
+sub-straddles c = search needs
+
+part-straddles-start : tie.Need-part-straddles-start
+part-straddles-start c = search needs
+
+part-straddles-end : tie.Need-part-straddles-end
+part-straddles-end c = omega (arith, length-rows (c .before .args .t .now))
+
+straddles-requires : tie.Need-straddles-requires
+straddles-requires c κs = search needs
+
+returns : tie.Need-returns
+returns c = straddles-in _ _ (c .before .before .before .args .from) (c .before .before .before .args .to) (c .before .before .before .args .t .now) _ (c .straddles .ensures)
+
+pub straddles-part-spec : {M : Type 1} → statement M
+straddles-part-spec =
+    tie.close
+    (tie.spec
+    mul-a
+    mul-e
+    mul-straddles
+    sub-straddles
+    part-straddles-start
+    part-straddles-end
+    straddles-requires
+    returns)
