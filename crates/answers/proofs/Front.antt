@@ -11,9 +11,9 @@ use lib.Seq.{sets, sets-eq}
 use Rattle.lists.proofs.Placed.{placed-fits, placed-short, length-placed}
 use Rattle.records.specs.Bytes.{_≤?_, bytes, number, numberAt}
 use Rattle.records.specs.Call.{Outcome, refused, closed, lentAfter, output}
-use Rattle.paths.specs.Answer.{answerOf}
-use Rattle.paths.specs.declared.answer.Answer.{Answer}
-use Rattle.paths.specs.declared.answer.Answer.the-variants.{Closed, Refused}
+use Rattle.closer.specs.Returned.{answerOf}
+use Rattle.closer.specs.declared.Answer.{Answer}
+use Rattle.closer.specs.declared.Answer.the-variants.{Closed, Refused}
 use Rattle.answers.specs.Written.{written, writtenLength, RefusalIn, FoundIn}
 
 -- r bytes are to be written, and the lent bytes, which were `old`, are `new`

@@ -6,8 +6,8 @@ use native.Mathlib.Nat.{zero-lt-suc}
 use native.Mathlib.Omega.{arith}
 use Rattle.records.specs.Call.{Outcome, refused}
 use Rattle.judgement.specs.Demands.{Demand1}
-use Rattle.paths.specs.Answer.{answerOf}
-use Rattle.paths.specs.declared.answer.Answer.{Answer}
+use Rattle.closer.specs.Returned.{answerOf}
+use Rattle.closer.specs.declared.Answer.{Answer}
 use Rattle.closer.specs.Returned.{codeOf, valueOf}
 
 -- a length is small too

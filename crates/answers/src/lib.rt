@@ -8,8 +8,8 @@ ghost use Rattle.records.specs.Bytes.{bytes};
 ghost use Rattle.records.specs.Call.{refused};
 ghost use Rattle.judgement.specs.Judge.{judge};
 ghost use Rattle.answers.specs.Written.{written, writtenLength, FoundIn};
+use closer::Answer;
 use closer::close_face;
-use paths::answer::Answer;
 
 // The four lowest bytes of a number, the lowest first.
 pub fn four_bytes(n: usize) -> [u8; 4]

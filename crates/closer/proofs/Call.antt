@@ -1,36 +1,40 @@
 -- The whole call from its stages.
-use Prim.Native.Nat.{ℕ, _≤_, _<_}
+use Prim.Native.Nat.{ℕ, _≤_, _<_, min}
 use mathlib.Core.Path.{_≡_, sym, ap, _∙_, subst}
 use mathlib.Core.List.{List, _++_}
+use lib.Ieee.{Float}
 use native.Mathlib.Omega.{arith}
 use mir.Syntax.{w8}
 use mir.Val.{Fits}
 use borrow.Author.Tests.{lt-ltb, le-ltb}
-use lib.ListN.{length, getD}
+use lib.ListN.{length, getD, take, length-map}
 use Rattle.records.specs.Accepted.{Accepted}
 use Rattle.records.specs.Call as Call
 use Rattle.records.specs.Call.{Outcome, outcome, code, value, lentAfter}
 use Rattle.records.specs.Limits.{resultBytes}
-use Rattle.records.specs.Refusals.{Verdict, passes, refuses, conditions, recordConditions, tooFewLent, verdict}
+use Rattle.records.specs.Refusals.{Verdict, passes, refuses, NoneHolds, conditions, recordConditions, tooFewLent, verdict}
+use Rattle.records.specs.Result.{countOf}
+use Rattle.records.proofs.Refused.{verdict-passes}
 use Rattle.records.proofs.Accepted.{accepted-exactly}
 use Rattle.judgement.specs.Demands.{Demand1, BandDemand, WholeDemand}
-use Rattle.judgement.specs.Judge.{judge, result}
+use Rattle.judgement.specs.Judge.{allConditions, judge, result}
+use Rattle.judgement.specs.Paths.{resultLoops}
 use Rattle.judgement.specs.Later.{laterConditions}
-use Rattle.judgement.proofs.Demands.{demand-1, demand-3}
+use Rattle.judgement.proofs.Demands.{demand-1, demand-3, strip-short}
 use Rattle.magnitudes.specs.Bounded.{ResultBounded}
 use Rattle.magnitudes.proofs.Still.{whole-demand}
 use Rattle.magnitudes.proofs.Theorem.{result-bounded}
-use Rattle.paths.specs.declared.answer.Answer.{Answer}
-use Rattle.paths.specs.declared.answer.Answer.the-variants.{Refused}
-use Rattle.paths.specs.Answer.{answerOf, AnswersTo}
-use Rattle.paths.specs.Judged.{judged}
-use Rattle.paths.proofs.Writing.{refused-by}
-use Rattle.closer.specs.declared.verdict.Verdict.{Verdict as Found}
-use Rattle.closer.specs.declared.verdict.Verdict.the-variants.{Passes, Refuses}
-use Rattle.closer.specs.Returned.{codeOf, valueOf}
-use Rattle.closer.specs.Stages.{verdictOf}
+use Rattle.results.specs.declared.Path.{Path}
+use Rattle.results.specs.declared.Written.{Written}
+use Rattle.results.specs.Written.{pathOf, WrittenTo}
+use Rattle.filling.specs.declared.face.Filled.{Filled}
+use Rattle.filling.specs.declared.face.Filled.the-variants.{Face, Refused as Refuses}
+use Rattle.filling.specs.Filled.{HoldsResult, pathTaken, filledBy, FillsTo}
+use Rattle.closer.specs.declared.Answer.{Answer}
+use Rattle.closer.specs.declared.Answer.the-variants.{Closed, Refused}
+use Rattle.closer.specs.Returned.{answerOf, codeOf, valueOf, bytesWritten, WrittenBytes}
 use Rattle.closer.proofs.Numbers.{code-is, value-is}
-use Rattle.closer.proofs.Stages.{first-refuse, first-pass}
+use Rattle.closer.proofs.Written.{AnswersTo, refused-by, front-full, refuses-told, passes-told, path-taken, first-passes, result-written}
 
 -- what the contract claims of a pair and of the lent bytes, beside its equations
 abbrev Claims : (s old : List ℕ) (code value : ℕ) (new : List ℕ) → Type 0
@@ -66,7 +70,7 @@ module _ (old s : List ℕ) where
   unfolding Call.judge verdict tooFewLent
   too-few h = refused-by _ 1 resultBytes (rw (lt-ltb (length old) resultBytes h)) old
 
-  module _ (enough : resultBytes ≤ length old) (found : Found) (found-is : verdictOf found ≡ verdict recordConditions s) where
+  module _ (enough : resultBytes ≤ length old) where
     lent-passes : verdict (conditions (length old) ++ laterConditions) s ≡ verdict (recordConditions ++ laterConditions) s
     unfolding verdict tooFewLent
     lent-passes = rw (le-ltb (length old) resultBytes enough)
@@ -75,16 +79,36 @@ module _ (old s : List ℕ) where
     unfolding Call.judge
     judge-is v e = ap (λ (w : Verdict). outcome w (result s)) (lent-passes ∙ e)
 
-    pub record-refused : (n p : ℕ) → found ≡ Refuses n p → AnswersTo (judge (length old) s) (Refused n p) old old
-    record-refused n p e =
-        refused-by _ n p (judge-is (refuses n p) (first-refuse s laterConditions recordConditions n p (sym found-is ∙ ap verdictOf e))) old
+    module _ (r : Filled) (counts : List ℕ) (areas t : List Float) (f : FillsTo (verdict (recordConditions ++ laterConditions) s) s r counts areas t) where
+      pub face-refused : (n p : ℕ) → r ≡ Refuses n p → AnswersTo (judge (length old) s) (Refused n p) old old
+      face-refused n p e = refused-by _ n p (judge-is (refuses n p) (refuses-told _ s n p (sym e ∙ f .answer))) old
 
-    module _ (e : found ≡ Passes) where
-      checked : verdict recordConditions s ≡ passes
-      checked = sym found-is ∙ ap verdictOf e
+      module _ (path : Path) (n : ℕ) (e : r ≡ Face path n) where
+        told : (verdict (recordConditions ++ laterConditions) s ≡ passes) × ((path ≡ pathTaken s) × (n ≡ length (resultLoops s)))
+        told = passes-told _ s path n (sym e ∙ f .answer)
 
-      pub record-accepted : Accepted s
-      record-accepted = accepted-exactly s .0 checked
+        held : HoldsResult (resultLoops s) (take n counts) areas t
+        held = subst (λ (k : ℕ). HoldsResult (resultLoops s) (take k counts) areas t) (sym (told .1 .1)) (f .holds (told .0))
 
-      pub record-closed : (r : Answer) (new : List ℕ) → AnswersTo (judged laterConditions s) r old new → AnswersTo (judge (length old) s) r old new
-      record-closed r new = subst (λ (o : Outcome). AnswersTo o r old new) (sym (judge-is _ (first-pass s laterConditions recordConditions checked)))
+        counts-there : n ≤ length counts
+        counts-there = front-full n counts (ap length (held .counts-are) ∙ length-map (resultLoops s) countOf ∙ sym (told .1 .1))
+
+        free : NoneHolds (allConditions (length old)) s
+        free = verdict-passes s (allConditions (length old)) .0 (lent-passes ∙ told .0)
+
+        accepted : Accepted s
+        accepted = accepted-exactly s .0 (first-passes s laterConditions recordConditions (told .0))
+
+        pub face-closed : (new : List ℕ) (k : ℕ) → WrittenBytes path n counts areas t old new k → AnswersTo (judge (length old) s) (Closed k) old new
+        face-closed new k w =
+            let few : min n (length counts) ≡ n = let c = counts-there in omega arith in
+            let to : WrittenTo path (take n counts) areas t old new (w .written) =
+            subst (λ (m : ℕ). WrittenTo path (take m counts) areas t old new (w .written)) few (w .written-to) in
+            subst (λ (o : Outcome). AnswersTo o (Closed k) old new) (sym (judge-is passes (told .0)))
+            (result-written s (accepted .loops-are) (accepted .total) (strip-short (length old) s free) path (ap pathOf (told .1 .0) ∙ path-taken s) (take n counts) areas t held old enough new (w .written) k to (w .bytes))
+
+-- the bytes of a result with l of its counts
+pub bytes-told : (path : Path) (loops : ℕ) (counts : List ℕ) (areas t : List Float) (old new : List ℕ) (r l : ℕ) → l ≡ min loops (length counts)
+    → (w : Written) → WrittenTo path (take l counts) areas t old new w → r ≡ bytesWritten w → WrittenBytes path loops counts areas t old new r
+bytes-told path loops counts areas t old new r l l-is w to bytes =
+    record { written = w; written-to = subst (λ (m : ℕ). WrittenTo path (take m counts) areas t old new w) l-is to; bytes = bytes }

@@ -1,5 +1,3 @@
-pub mod Refused
-pub mod Stages
-pub mod Reading
-pub mod Call
 pub mod Numbers
+pub mod Written
+pub mod Call

@@ -1,8 +1,8 @@
 -- The answer as two numbers is that of the judgement.
 use mathlib.Core.Path.{_≡_, ap}
 use Rattle.records.specs.Call.{Outcome, refused, closed, code, value}
-use Rattle.paths.specs.declared.answer.Answer.{Answer}
-use Rattle.paths.specs.Answer.{answerOf}
+use Rattle.closer.specs.declared.Answer.{Answer}
+use Rattle.closer.specs.Returned.{answerOf}
 use Rattle.closer.specs.Returned.{codeOf, valueOf}
 
 pub code-is : (o : Outcome) (r : Answer) → r ≡ answerOf o → codeOf r ≡ code o

@@ -6,8 +6,8 @@ ghost use Rattle.judgement.specs.Demands.{Demand1, BandDemand, WholeDemand};
 ghost use Rattle.judgement.specs.Judge.{judge};
 ghost use Rattle.magnitudes.specs.Bounded.{ResultBounded};
 ghost use Rattle.closer.specs.Returned.{codeOf, valueOf};
+use super::Answer;
 use super::close_face;
-use paths::answer::Answer;
 
 fn code_of(answer: Answer) -> u32
     ensures { λ r. ⌜ r ≡ codeOf answer ⌝ }

@@ -5,25 +5,68 @@ ghost use Rattle.records.specs.Call.{lentAfter};
 ghost use Rattle.judgement.specs.Demands.{Demand1, BandDemand, WholeDemand};
 ghost use Rattle.judgement.specs.Judge.{judge};
 ghost use Rattle.magnitudes.specs.Bounded.{ResultBounded};
-ghost use Rattle.paths.specs.Answer.{answerOf};
-ghost use Rattle.closer.specs.Returned.{codeOf, valueOf};
-use paths::answer::Answer;
-use record::close_record;
-use verdict::Verdict;
-use verdict::check_record;
+ghost use Rattle.closer.specs.Returned.{answerOf, codeOf, valueOf, bytesWritten, WrittenBytes};
+use filling::face::Filled;
+use filling::face::fill_face;
+use results::Path;
+use results::Written;
+use results::write_result;
+use slices::shorter;
 
 pub mod entry;
-mod measured;
-mod record;
-mod rings;
-mod verdict;
+
+pub enum Answer {
+    // The length of the result record.
+    Closed(usize),
+    Refused { number: u8, place: usize },
+}
+
+// How many bytes were written: none where something was too short.
+fn bytes_written(written: Written) -> usize
+    ensures { λ r. ⌜ r ≡ bytesWritten written ⌝ }
+{
+    match written {
+        Written::Length(n) => n,
+        Written::Refused => 0,
+    }
+}
+
+// A result of so many loops, written into the front of the lent bytes. Answers how many it takes.
+fn write_loops(
+    path: Path,
+    loops: usize,
+    counts: &[usize],
+    areas: &[f64],
+    t: &[f64],
+    result: &mut [u8],
+) -> usize
+    ensures { λ r. ⌜ WrittenBytes path loops (now (counts .entry)) (now (areas .entry)) (now (t .entry)) (now (result .entry)) (now (result .exit)) r ⌝ }
+{
+    let l = shorter(loops, counts.len());
+    bytes_written(write_result(path, &counts[..l], areas, t, result))
+}
+
+// What filling leaves in its arrays, written.
+fn write_filled(
+    path: Path,
+    loops: usize,
+    counts: &[usize; 16],
+    areas: &[f64; 16],
+    t: &[f64; 7680],
+    result: &mut [u8],
+) -> usize
+    ensures { λ r. ⌜ WrittenBytes path loops (now (counts .entry)) (now (areas .entry)) (now (t .entry)) (now (result .entry)) (now (result .exit)) r ⌝ }
+{
+    write_loops(path, loops, counts, areas, t, result)
+}
 
 // The face record is closed into the front of the lent bytes, or refused; refused, the lent bytes
 // keep their values. The first two clauses say what is returned and what the lent bytes are then, by
 // the definition of the whole call: demand 2, where that definition is what the Rust computes. The next
 // two are the demands 1 and 3 of the pair and the bytes, 3 wherever the holes lie (02, N4), then what
 // 02, N2 adds of whole surfaces. The last goes beyond 01: every real of a result is finite and at most
-// 10^24 in size, as 02, N9 asks of results.
+// 10^24 in size, as 02, N9 asks of results. The tables are those of version 1: a strip of 1,024 corners
+// and 512 points of holes, and 16 loops.
 pub fn close_face(record: &[u8], result: &mut [u8]) -> Answer
     ensures { λ r. ⌜ r ≡ answerOf (judge (length (now (result .entry))) (now («record» .entry))) ⌝ }
     ensures { λ _. ⌜ now (result .exit) ≡ lentAfter (judge (length (now (result .entry))) (now («record» .entry))) (now (result .entry)) ⌝ }
@@ -38,8 +81,16 @@ pub fn close_face(record: &[u8], result: &mut [u8]) -> Answer
             place: 61614,
         };
     }
-    if let Verdict::Refuses { number, place } = check_record(record) {
-        return Answer::Refused { number, place };
+    let mut t = [0.0; 7680];
+    let mut counts = [0; 16];
+    let mut areas = [0.0; 16];
+    match fill_face(record, &mut t, &mut counts, &mut areas) {
+        Filled::Refused { number, place } => Answer::Refused {
+            number: number,
+            place: place,
+        },
+        Filled::Face { path, loops } => {
+            Answer::Closed(write_filled(path, loops, &counts, &areas, &t, result))
+        }
     }
-    close_record(record, result)
 }

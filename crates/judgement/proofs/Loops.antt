@@ -14,17 +14,16 @@ use Rattle.lists.specs.Pieces.{pieces}
 use Rattle.lists.proofs.Maps.{map-take, map-drop}
 use Rattle.lists.proofs.Pieces.{length-pieces}
 use Rattle.loops.specs.Wrap.{netWrap}
-use Rattle.tables.specs.Corners.{Corner, Corners, positions}
+use Rattle.tables.specs.Corners.{Corner, Corners, positions, cornersFrom}
 use Rattle.bands.specs.Given.{Measured, wraps, only, givenOf}
 use Rattle.records.specs.Bytes.{uvAt, xyzAt, sum}
-use Rattle.records.specs.Face.{loops, counts, points, parameters, loopPositions}
+use Rattle.records.specs.Face.{loops, counts, points, parameters, loopPositions, uOf, vOf, cornersIn}
 use Rattle.records.specs.Face as Face
-use Rattle.records.specs.Lent.{uOf, vOf}
 use Rattle.records.specs.Result.{All, none, and, Fits, FitsXyz}
 use Rattle.records.proofs.Accepted.{parameters-fit, positions-fit}
 use Rattle.records.proofs.Columns.{length-counts}
 use Rattle.records.proofs.Rows.{length-rowAt}
-use Rattle.judgement.specs.Face.{surfaceIn, cornersFrom, cornersIn, loopsIn, wrapOf, measuredIn, isWrapping, wrapping, givenIn}
+use Rattle.judgement.specs.Face.{surfaceIn, loopsIn, wrapOf, measuredIn, isWrapping, wrapping, givenIn}
 use Rattle.judgement.proofs.Doubles.{FitsCorner, FitsCorners}
 use Rattle.judgement.proofs.Each.{all-getD, all-take, all-drop, all-reverse, all-map, all-only}
 use Rattle.judgement.proofs.Rings.{EachGiven}

@@ -12,7 +12,7 @@ use Rattle.regions.specs.Outer.{holesOf}
 use Rattle.bands.specs.Given.{only}
 use Rattle.records.specs.Bytes.{sum}
 use Rattle.records.specs.Result.{All, none, and, Short}
-use Rattle.judgement.specs.Face.{cornersFrom}
+use Rattle.tables.specs.Corners.{cornersFrom}
 use Rattle.judgement.proofs.Each.{all-so}
 
 module _ {A : Type 0} where

@@ -24,19 +24,18 @@ use Rattle.surfaces.specs.Steps.{vStepsOf}
 use Rattle.surfaces.proofs.knots.Rungs.{inner-few}
 use Rattle.surfaces.proofs.steps.Count.{v-steps-few}
 use Rattle.bands.specs.Band.{lift, pick, joined, lowerFirst, lowerRing, upperRing, stripOf}
-use Rattle.tables.specs.Corners.{Corner, Corners}
+use Rattle.tables.specs.Corners.{Corner, Corners, cornersFrom}
 use Rattle.bands.specs.Given.{only, givenOf}
 use Rattle.bands.specs.Strip.{Setting, ladder, heights, wall, strip}
 use Rattle.bands.proofs.Lengths.{length-first, length-later}
 use Rattle.records.specs.Bytes.{_≤?_, _=?_}
-use Rattle.records.specs.Face.{kind, counts, points, realOf}
+use Rattle.records.specs.Face.{kind, counts, points, realOf, vOf, cornersIn}
 use Rattle.records.specs.Accepted.{Accepted}
-use Rattle.records.specs.Lent.{vOf}
 use Rattle.records.specs.Limits.{64·0, 10^6, cone, holds, upTo, vRange}
 use Rattle.records.specs.Result.{All, none, and}
 use Rattle.records.proofs.Accepted.{parameters-in-range}
 use Rattle.records.proofs.Bounds.{within-64}
-use Rattle.judgement.specs.Face.{surfaceOf, surfaceIn, optionsIn, cornersFrom, cornersIn, loopsIn, measuredIn, isWrapping, settingIn, givenIn}
+use Rattle.judgement.specs.Face.{surfaceOf, surfaceIn, optionsIn, loopsIn, measuredIn, isWrapping, settingIn, givenIn}
 use Rattle.judgement.specs.Later.{stripPoints}
 use Rattle.judgement.proofs.Each.{all-first, all-rest, all-getD, all-reverse, all-map, all-only}
 use Rattle.judgement.proofs.Loops.{all-pieces, given-each, measured-short}

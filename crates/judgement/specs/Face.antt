@@ -5,7 +5,6 @@ use mathlib.Core.List.{List, [], _∷_, map}
 use lib.IntN.{ℤ, pos}
 use lib.ListN.{length}
 use lib.Ieee.{Float}
-use Rattle.numbers.specs.Constants.{plusZero}
 use Rattle.numbers.specs.Frames.{frameOf}
 use Rattle.numbers.specs.declared.math.Vec3.{Vec3}
 use Rattle.numbers.specs.declared.math.Frame.{Frame}
@@ -14,7 +13,7 @@ use Rattle.surfaces.specs.declared.surface.Period.{Period}
 use Rattle.surfaces.specs.declared.surface.Period.the-variants.{Every, None}
 use Rattle.surfaces.specs.declared.surface.Surface.{Surface}
 use Rattle.surfaces.specs.declared.surface.Surface.the-variants.{Plane, Cylinder, Cone, Sphere, Torus}
-use Rattle.surfaces.specs.Domains.{uPeriod, vPeriod}
+use Rattle.surfaces.specs.Domains.{uPeriod, vPeriod, periodLength}
 use Rattle.lists.specs.Pieces.{pieces}
 use Rattle.loops.specs.Wrap.{netWrap}
 use Rattle.tables.specs.Corners.{Corners, us}
@@ -22,8 +21,7 @@ use Rattle.bands.specs.Columns.{settingOf}
 use Rattle.bands.specs.Given.{Measured, Given, wraps, only, givenOf}
 use Rattle.bands.specs.Strip.{Setting}
 use Rattle.records.specs.Bytes.{_=?_}
-use Rattle.records.specs.Face.{kind, sense, segments, counts, realOf, parameters, positions}
-use Rattle.records.specs.Lent.{uOf, vOf}
+use Rattle.records.specs.Face.{kind, sense, segments, counts, realOf, cornersIn}
 use Rattle.records.specs.Limits.{plane, cylinder, cone, sphere}
 
 -- ---- the surface
@@ -56,11 +54,6 @@ optionsIn s = record { sag = realOf s 11; angle = realOf s 12; «min_edge_segmen
 unfoldable pub senseIn : List ℕ → Bool
 senseIn s = sense s =? 1
 
--- a period as a real: 0 where a parameter does not come round
-abbrev pub periodLength : Period → Float
-periodLength None = plusZero
-periodLength (Every p) = p
-
 abbrev pub uPeriodIn : List ℕ → Float
 uPeriodIn s = periodLength (uPeriod (surfaceIn s))
 
@@ -68,17 +61,6 @@ abbrev pub vPeriodIn : List ℕ → Float
 vPeriodIn s = periodLength (vPeriod (surfaceIn s))
 
 -- ---- the loops
-
--- corners of which the u, the v and the positions are given
-unfoldable pub cornersFrom : {A : Type 0} → List Float → List Float → List A → Corners A
-cornersFrom [] vs ps = []
-cornersFrom (u ∷ us) [] ps = []
-cornersFrom (u ∷ us) (v ∷ vs) [] = []
-cornersFrom (u ∷ us) (v ∷ vs) (p ∷ ps) = record { u = u; v = v; at = p } ∷ cornersFrom us vs ps
-
--- "Then all (u, v), then all (x, y, z)."
-unfoldable pub cornersIn : List ℕ → Corners Vec3
-cornersIn s = cornersFrom (map uOf (parameters s)) (map vOf (parameters s)) (positions s)
 
 -- "Then L two-byte counts": the loops in file order
 unfoldable pub loopsIn : List ℕ → List (Corners Vec3)

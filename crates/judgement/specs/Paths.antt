@@ -16,11 +16,11 @@ use Rattle.regions.specs.declared.boxes.Bounds.{Bounds}
 use Rattle.regions.specs.declared.rephase.Branch.{Branch}
 use Rattle.whole.specs.Boundary.{wholeCorners, positionOf, wholeArea}
 use Rattle.bands.specs.Band.{outer, holes}
-use Rattle.tables.specs.Corners.{Corner, Corners, us, vs, positions}
+use Rattle.tables.specs.Corners.{Corner, Corners, us, vs, positions, cornersFrom}
 use Rattle.records.specs.Bytes.{_=?_}
 use Rattle.records.specs.Face.{loops}
 use Rattle.records.specs.Result.{Result, Loop, resultOf}
-use Rattle.judgement.specs.Face.{frameIn, surfaceIn, optionsIn, uPeriodIn, vPeriodIn, cornersFrom, loopsIn, wrapping, settingIn, givenIn}
+use Rattle.judgement.specs.Face.{frameIn, surfaceIn, optionsIn, uPeriodIn, vPeriodIn, loopsIn, wrapping, settingIn, givenIn}
 
 -- a loop of the result, with the corners' parameters and positions
 abbrev pub ResultLoop : Type 0

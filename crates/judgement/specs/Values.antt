@@ -44,12 +44,13 @@ use Rattle.bands.specs.Strip.{ladder, heights, strip}
 use Rattle.records.specs.Bytes.{number, numberAt, realAt, uvAt, xyzAt, rowAt, bytes, real, uv, xyz, row, sum}
 use Rattle.records.specs.Call as Call
 use Rattle.records.specs.Call.{refused, closed, code, value}
-use Rattle.records.specs.Face.{start, counts, parameters, positions}
+use Rattle.records.specs.Face.{start, counts, parameters, positions, cornersIn}
 use Rattle.records.specs.Limits.{0·0, 0·001, 1·5, 10^6, holds, headRange, radius, second, uvRange, uRange, vRange, range}
 use Rattle.records.specs.Refusals.{passes, verdict, firstFrom, tooFewLent, wrongByte, wrongHeader, tooManyLoops, endsInCounts, tooFewPoints, tooManyPoints, wrongLength, badReal, firstBadReal}
 use Rattle.records.specs.Result.{encode, decode, countsIn, cornersIn as cornersBack, resultOf, cornersOf as together, loopPositionsOf}
 use Rattle.records.specs.Values.{triangle, written}
-use Rattle.judgement.specs.Face.{frameIn, surfaceOf, surfaceIn, optionsIn, senseIn, cornersFrom, cornersIn, loopsIn, measuredIn, wrapping, settingIn, givenIn}
+use Rattle.tables.specs.Corners.{cornersFrom}
+use Rattle.judgement.specs.Face.{frameIn, surfaceOf, surfaceIn, optionsIn, senseIn, loopsIn, measuredIn, wrapping, settingIn, givenIn}
 use Rattle.judgement.specs.Later.{loopIn, openRing, oneRing, manyRings, openSurface, stripPoints, longStrip}
 use Rattle.judgement.specs.Paths.{outerNumber, outerLoop, rephasedHole, closedLoops, loopsFrom, wrappedLoops, wholeLoop, pathIn, resultLoops, resultIn}
 use Rattle.judgement.specs.Judge.{allConditions, judge}

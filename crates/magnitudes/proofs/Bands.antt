@@ -20,7 +20,7 @@ use Rattle.numbers.proofs.Magnitude.{held-small, within-more, add-within, sub-w
 use Rattle.numbers.proofs.math.Frames.{In, Billion, in-more}
 use Rattle.surfaces.specs.declared.surface.Period.{Period}
 use Rattle.surfaces.specs.declared.surface.Period.the-variants.{Every, None}
-use Rattle.surfaces.specs.Domains.{uPeriod, vPeriod}
+use Rattle.surfaces.specs.Domains.{uPeriod, vPeriod, periodLength}
 use Rattle.surfaces.specs.Rungs.{rungs, inner}
 use Rattle.surfaces.specs.Steps.{vStepsOf}
 use Rattle.surfaces.proofs.surface.Points.{point-in}
@@ -33,7 +33,7 @@ use Rattle.records.specs.Accepted.{Accepted}
 use Rattle.records.specs.Face.{kind, realOf}
 use Rattle.records.specs.Limits.{plane}
 use Rattle.records.specs.Result.{All, and}
-use Rattle.judgement.specs.Face.{frameIn, surfaceOf, surfaceIn, optionsIn, periodLength, loopsIn, wrapOf, measuredIn, isWrapping, wrapping, settingIn, givenIn}
+use Rattle.judgement.specs.Face.{frameIn, surfaceOf, surfaceIn, optionsIn, loopsIn, wrapOf, measuredIn, isWrapping, wrapping, settingIn, givenIn}
 use Rattle.judgement.proofs.Each.{all-first, all-append, all-drop, all-dropLast, all-reverse, all-if, all-map, all-so, all-dropRepeats}
 use Rattle.judgement.proofs.Loops.{loops-fit, given-each}
 use Rattle.judgement.proofs.Rings.{EachGiven, pick-each, holes-each}

@@ -20,12 +20,11 @@ use Rattle.surfaces.specs.declared.surface.Surface.the-variants.{Plane, Cylinde
 use Rattle.surfaces.specs.Domains.{uPeriod, vPeriod}
 use Rattle.surfaces.proofs.surface.Points.{Sizes}
 use Rattle.lists.specs.Pieces.{pieces}
-use Rattle.tables.specs.Corners.{Corner, Corners, positions}
+use Rattle.tables.specs.Corners.{Corner, Corners, positions, cornersFrom}
 use Rattle.records.specs.Accepted.{Accepted}
 use Rattle.records.specs.Bytes.{u16At, sum, _=?_}
-use Rattle.records.specs.Face.{headReals, kind, loops, counts, points, realOf, parameters}
+use Rattle.records.specs.Face.{headReals, kind, loops, counts, points, realOf, parameters, uOf, vOf, cornersIn}
 use Rattle.records.specs.Face as Face
-use Rattle.records.specs.Lent.{uOf, vOf}
 use Rattle.records.specs.Limits.{10^6, 64·0, 1·5, 10^-6, 0·0, Range, _to_, upTo, holds, plane, cone, radius, second, uRange, vRange, headRange}
 use Rattle.records.specs.Result.{All, none, and}
 use Rattle.records.proofs.Accepted.{parameters-in-range, positions-in-range, points-sum}
@@ -33,7 +32,7 @@ use Rattle.records.proofs.Bounds.{within-billion, within-million, within-64, le
 use Rattle.records.proofs.Ranges.{range-head}
 use Rattle.records.proofs.Rows.{all-rowAt}
 use Rattle.magnitudes.specs.Bounded.{mostAngle}
-use Rattle.judgement.specs.Face.{vectorIn, frameIn, surfaceOf, surfaceIn, cornersFrom, cornersIn, loopsIn}
+use Rattle.judgement.specs.Face.{vectorIn, frameIn, surfaceOf, surfaceIn, loopsIn}
 use Rattle.judgement.proofs.Each.{all-map, all-so}
 use Rattle.judgement.proofs.Loops.{all-pieces, length-positions, length-parameters, positions-of}
 

@@ -16,7 +16,7 @@ use Rattle.numbers.proofs.Magnitude.{within-more}
 use Rattle.numbers.proofs.math.Frames.{In, Billion}
 use Rattle.surfaces.specs.declared.surface.Period.the-variants.{Every, None}
 use Rattle.surfaces.specs.declared.surface.Surface.the-variants.{Plane, Cylinder, Cone, Sphere, Torus}
-use Rattle.surfaces.specs.Domains.{uPeriod, vPeriod}
+use Rattle.surfaces.specs.Domains.{uPeriod, vPeriod, periodLength}
 use Rattle.numbers.specs.Constants.{plusZero, TAU}
 use Rattle.loops.proofs.Trailing.{repeats-fewer}
 use Rattle.bands.specs.Band.{lowerRing, stripOf, outer}
@@ -31,7 +31,7 @@ use Rattle.records.specs.Refusals.{NoneHolds}
 use Rattle.records.specs.Result.{Result, All, none, and, decode, cornersOf, resultOf}
 use Rattle.records.specs.Result as Result
 use Rattle.records.proofs.Closing.{closed-accepted, closed-read}
-use Rattle.judgement.specs.Face.{surfaceOf, surfaceIn, uPeriodIn, vPeriodIn, periodLength, loopsIn, measuredIn, isWrapping, wrapping, settingIn, givenIn}
+use Rattle.judgement.specs.Face.{surfaceOf, surfaceIn, uPeriodIn, vPeriodIn, loopsIn, measuredIn, isWrapping, wrapping, settingIn, givenIn}
 use Rattle.judgement.specs.Judge.{allConditions, judge}
 use Rattle.judgement.specs.Later.{laterConditions, stripPoints}
 use Rattle.judgement.specs.Paths.{ResultLoop, signedArea, loopsFrom, wrappedLoops, closedLoops, wholeLoop, uvOf, xyzOf, pathIn, resultLoops, resultIn}

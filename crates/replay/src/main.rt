@@ -7,10 +7,10 @@ ghost use mathlib.Core.List.{_∷_, []};
 ghost use Rattle.records.specs.Bytes.{number};
 use answers::four_bytes;
 use answers::write_refusal;
+use closer::Answer;
 use closer::close_face;
 use painted::is_painted;
 use painted::paint;
-use paths::answer::Answer;
 
 fn wide(byte: u8) -> usize
     ensures { λ r. ⌜ r ≡ byte ⌝ }

@@ -41,11 +41,12 @@ use Rattle.bands.specs.Strip.{ladder, heights, strip}
 use Rattle.records.specs.Bytes.{number, numberAt, realAt, uvAt, xyzAt, rowAt, bytes, real, uv, xyz, row, sum}
 use Rattle.records.specs.Call as Call
 use Rattle.records.specs.Call.{closed}
-use Rattle.records.specs.Face.{start, counts, parameters, positions, loopPositions}
+use Rattle.records.specs.Face.{start, counts, parameters, positions, loopPositions, cornersIn}
 use Rattle.records.specs.Limits.{0·0, 1·5, holds, headRange, radius, second, uvRange, uRange, vRange, range}
 use Rattle.records.specs.Refusals.{verdict, firstFrom, tooFewLent, wrongByte, wrongHeader, tooManyLoops, endsInCounts, tooFewPoints, tooManyPoints, wrongLength, badReal, firstBadReal}
 use Rattle.records.specs.Result.{encode, decode, countsIn, cornersIn as cornersBack, loopPositionsOf, resultOf, cornersOf as together}
-use Rattle.judgement.specs.Face.{frameIn, surfaceOf, surfaceIn, optionsIn, senseIn, cornersFrom, cornersIn, loopsIn, measuredIn, wrapping, settingIn, givenIn}
+use Rattle.tables.specs.Corners.{cornersFrom}
+use Rattle.judgement.specs.Face.{frameIn, surfaceOf, surfaceIn, optionsIn, senseIn, loopsIn, measuredIn, wrapping, settingIn, givenIn}
 use Rattle.judgement.specs.Later.{loopIn, openRing, oneRing, manyRings, openSurface, stripPoints, longStrip}
 use Rattle.judgement.specs.Paths.{loopsFrom, wrappedLoops, pathIn, resultLoops, resultIn}
 use Rattle.judgement.specs.Judge.{judge}

@@ -1,1 +1,0 @@
-// What parallel slices hold of a face and of its result: definitions and laws alone.

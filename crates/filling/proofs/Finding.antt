@@ -1,0 +1,102 @@
+-- The number of a loop that is found, the sign of a travel, a ring that is copied, the areas of the holes, and both rings.
+use Prim.Native.Nat.{ℕ, _≤_, min}
+use mathlib.Core.Path.{_≡_, refl, sym, ap, _∙_}
+use mathlib.Core.Bool.{Bool}
+use mathlib.Core.List.{List, map}
+use native.Mathlib.Omega.{arith}
+use borrow.Author.Tests.{le-ltb}
+use mir.Syntax.{w32}
+use mir.Val.{ofZ, toZ, SFits}
+use mir.Facts.{toZ-ofZ}
+use lib.Signed.{ltZ}
+use lib.IntN.{ℤ, pos, negsuc}
+use lib.Ieee.{Float}
+use lib.ListN.{length, take, replicate}
+use Rattle.numbers.specs.declared.math.Frame.{Frame}
+use Rattle.numbers.specs.declared.math.Vec3.{Vec3}
+use Rattle.surfaces.specs.declared.options.Resolved.{Resolved}
+use Rattle.surfaces.specs.declared.surface.Surface.{Surface}
+use Rattle.surfaces.specs.Domains.{uPeriod}
+use Rattle.surfaces.specs.declared.surface.Period.{Period}
+use Rattle.lists.specs.Pieces.{pieces}
+use Rattle.lists.specs.Placed.{placed}
+use Rattle.lists.proofs.Pieces.{length-pieces}
+use Rattle.tables.specs.Corners.{Corners}
+use Rattle.tables.specs.Rows.{rows}
+use Rattle.loop_records.specs.declared.LoopRecord.{LoopRecord}
+use Rattle.loop_records.specs.Record.{noLoop}
+use Rattle.bands.specs.Given.{falls}
+use Rattle.records.specs.Answers.{placeOf}
+use Rattle.records.specs.Accepted.{Accepted}
+use Rattle.records.specs.Face.{counts, cornersIn}
+use Rattle.records.specs.Refusals.{at, firstWhere}
+use Rattle.records.specs.Refusals as Sought
+use Rattle.records.proofs.Search.{nowhere≢at}
+use Rattle.records.specs.declared.check.Place.{Place}
+use Rattle.records.specs.declared.check.Place.the-variants.{Nowhere, At}
+use Rattle.judgement.specs.Face.{frameIn, surfaceIn, optionsIn, senseIn, wrapping}
+use Rattle.judgement.specs.Paths.{signedArea}
+use Rattle.measuring.specs.Loops.{recordsFrom, wrapsIn}
+use Rattle.measuring.specs.Refusals.{wrapsAt, lastWhere}
+use Rattle.measuring.proofs.Measured.{areas-shown}
+use Rattle.measuring.proofs.Recorded.{read-out}
+use Rattle.holes.specs.Others.{others}
+use Rattle.filling.specs.Band.{BandFace}
+use Rattle.filling.proofs.TwoRings.{some-first, some-last}
+
+pub found-at : (p : Place) (n : ℕ) → p ≡ At n → (k : ℕ) → placeOf p ≡ at k → n ≡ k
+found-at p n e k f = let g : at n ≡ at k = sym (ap placeOf e) ∙ f in cc
+
+pub found-none : (p : Place) → p ≡ Nowhere → (k : ℕ) → placeOf p ≡ at k → 0 ≡ k
+found-none p e k f = absurd (nowhere≢at (sym (ap placeOf e) ∙ f))
+
+negative : (z : ℤ) → ltZ z (pos 0) ≡ falls z
+negative (pos n) = le-ltb n 0 (omega arith)
+negative (negsuc n) = refl
+
+pub falls-by : (z : ℤ) → SFits w32 z → ltZ (toZ w32 (ofZ w32 z)) (pos 0) ≡ falls z
+falls-by z f = ap (λ (x : ℤ). ltZ x (pos 0)) (toZ-ofZ f) ∙ negative z
+
+pub ring-put : {A : Type 0} (w w′ d d′ : List A) → w ≡ w′ → d′ ≡ placed 0 w d → d′ ≡ placed 0 w′ d
+ring-put w w′ d d′ e put = put ∙ ap (λ (l : List _). placed 0 l d) e
+
+-- the areas that are picked are those of the loops
+pub areas-put : (period : Period) (ns : List ℕ) (corners : Corners Vec3) (loops : List LoopRecord) (m₀ m : List Float) (l a b : ℕ) (dst dst′ : List Float) → l ≡ min (length ns) 16 → length m₀ ≡ 16
+    → m ≡ placed 0 (map (λ (r : LoopRecord). r .area) (take l loops)) m₀ → dst′ ≡ placed 1 (others a b (take l m)) dst
+    → length ns ≤ 16 → loops ≡ placed 0 (recordsFrom period 0 (pieces ns corners)) (replicate 16 noLoop)
+    → dst′ ≡ placed 1 (others a b (map signedArea (pieces ns corners))) dst
+areas-put period ns corners loops m₀ m l a b dst dst′ l-is long read put few loops-are =
+    let k = length-pieces ns corners in
+    let all : l ≡ length ns = omega arith in
+    let shown : take l m ≡ map signedArea (pieces ns corners) = areas-shown period (pieces ns corners) l m₀ m (omega arith) (omega arith)
+    (read-out (λ (r : LoopRecord). r .area) period ns corners loops m₀ m few loops-are (read ∙ ap (λ (j : ℕ). placed 0 (map (λ (r : LoopRecord). r .area) (take j loops)) m₀) all)) in
+    put ∙ ap (λ (x : List Float). placed 1 (others a b x) dst) shown
+
+-- ---- both rings are found
+
+number-found : (p : Place) (q : Sought.Place) (n : ℕ) → placeOf p ≡ q → (q ≡ Sought.nowhere → ⊥) → ((k : ℕ) → placeOf p ≡ at k → n ≡ k) → q ≡ at n
+number-found Nowhere q n e some is = absurd (some (sym e))
+number-found (At k) q n e some is = sym e ∙ ap at (sym (is k refl))
+
+pub face-of : (s : List ℕ) (corners : List Float) (given : List ℕ) (loops : List LoopRecord) (wraps : List ℤ) (frame : Frame) (surface : Surface) (options : Resolved) (sense : Bool) (p q : Place) (a b : ℕ)
+    → Accepted s → wrapping s ≡ 2 → given ≡ counts s → rows corners ≡ cornersIn s → loops ≡ placed 0 (recordsFrom (uPeriod surface) 0 (pieces given (rows corners))) (replicate 16 noLoop)
+    → wraps ≡ wrapsIn s → surface ≡ surfaceIn s → frame ≡ frameIn s → options ≡ optionsIn s → sense ≡ senseIn s
+    → placeOf p ≡ lastWhere (length wraps) (wrapsAt wraps) → ((k : ℕ) → placeOf p ≡ at k → a ≡ k)
+    → placeOf q ≡ firstWhere (length wraps) (wrapsAt wraps) → ((k : ℕ) → placeOf q ≡ at k → b ≡ k)
+    → BandFace s corners given loops frame surface options sense a b
+face-of s corners given loops wraps frame surface options sense p q a b acc two given-is corners-are loops-are wraps-are surface-is frame-is options-are sense-is p-is a-is q-is b-is = record {
+  accepted = acc;
+  two = two;
+  given-is = given-is;
+  corners-are = corners-are;
+  loops-are = loops-are;
+  frame-is = frame-is;
+  surface-is = surface-is;
+  options-are = options-are;
+  sense-is = sense-is;
+  first-is = number-found p _ a (p-is ∙ ap (λ (ws : List ℤ). lastWhere (length ws) (wrapsAt ws)) wraps-are) (some-last s two) a-is;
+  later-is = number-found q _ b (q-is ∙ ap (λ (ws : List ℤ). firstWhere (length ws) (wrapsAt ws)) wraps-are) (some-first s two) b-is;
+}
+
+pub falls-held : (t : Bool) (z : ℤ) → SFits w32 z → t ≡ falls (toZ w32 (ofZ w32 z)) → t ≡ falls z
+falls-held t z f e = e ∙ ap falls (toZ-ofZ f)

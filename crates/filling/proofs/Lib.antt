@@ -1,0 +1,14 @@
+pub mod Refused
+pub mod Stages
+pub mod Reading
+pub mod Chosen
+pub mod Held
+pub mod Whole
+pub mod Closed
+pub mod Between
+pub mod Others
+pub mod TwoRings
+pub mod Recorded
+pub mod Finding
+pub mod Taken
+pub mod Banded

@@ -1,0 +1,51 @@
+-- The stages of filling a face: what a record is read as, and what is left to be judged after each stage.
+use Prim.Native.Nat.{ℕ}
+use mathlib.Core.Path.{_≡_}
+use mathlib.Core.List.{List, [], _∷_}
+use lib.IntN.{ℤ}
+use lib.Ieee.{Float}
+use lib.ListN.{length}
+use Rattle.numbers.specs.declared.math.Vec3.{Vec3}
+use Rattle.tables.specs.Corners.{Corners}
+use Rattle.tables.specs.Rows.{rows}
+use Rattle.records.specs.Face as Face
+use Rattle.records.specs.Face.{cornersIn}
+use Rattle.records.specs.Refusals.{Verdict, passes, refuses, Condition, _on_, refuseAt}
+use Rattle.judgement.specs.Later.{openRing, oneRing, manyRings, openSurface, longStrip}
+use Rattle.measuring.specs.Refusals.{openAmong, oneAmong, manyAmong, openKind}
+use Rattle.filling.specs.declared.verdict.Verdict.{Verdict as Found}
+use Rattle.filling.specs.declared.verdict.Verdict.the-variants.{Passes, Refuses}
+
+-- the face record s, as it is read
+pub record ReadAs (s : List ℕ) (kind sense segments : ℕ) (head : List Float) (counts : List ℕ) (t : List Float) : Type 0 where
+  pub kind-is : kind ≡ Face.kind s
+  pub sense-is : sense ≡ Face.sense s
+  pub segments-are : segments ≡ Face.segments s
+  pub head-is : head ≡ Face.head s
+  pub counts-are : counts ≡ Face.counts s
+  pub corners-are : rows t ≡ cornersIn s
+
+abbrev pub verdictOf : Found → Verdict
+verdictOf Passes = passes
+verdictOf (Refuses n p) = refuses n p
+
+-- the refusals 8 to 11
+abbrev pub ringConditions : List Condition
+ringConditions =
+    8 on openRing
+    ∷ 9 on oneRing
+    ∷ 10 on manyRings
+    ∷ 11 on openSurface
+    ∷ []
+
+-- the last refusal
+abbrev pub stripConditions : List Condition
+stripConditions = 12 on longStrip ∷ []
+
+-- the refusals 8 to 11 of a face of this kind with these loops and their wraps, the first that holds
+unfoldable pub ringsVerdict : ℕ → List (Corners Vec3) → List ℤ → Verdict
+ringsVerdict kind ls ws =
+    refuseAt (openAmong ls ws) 8
+    (refuseAt (oneAmong ws) 9
+    (refuseAt (manyAmong ws) 10
+    (refuseAt (openKind kind (length ls)) 11 passes)))

@@ -1,0 +1,189 @@
+// A face record filled into lent tables.
+ghost use mathlib.Core.Path.{_≡_};
+ghost use mathlib.Core.List.{List, _++_};
+ghost use Prim.Native.Nat.{ℕ};
+ghost use lib.ListN.{replicate};
+ghost use Rattle.lists.specs.Pieces.{pieces};
+ghost use Rattle.lists.specs.Placed.{placed};
+ghost use Rattle.tables.specs.Rows.{rows};
+ghost use Rattle.surfaces.specs.Domains.{uPeriod};
+ghost use Rattle.loop_records.specs.Record.{noLoop};
+ghost use Rattle.records.specs.Accepted.{Accepted};
+ghost use Rattle.records.specs.Refusals.{passes, verdict, recordConditions};
+ghost use Rattle.judgement.specs.Face.{surfaceIn};
+ghost use Rattle.judgement.specs.Later.{laterConditions};
+ghost use Rattle.measuring.specs.Loops.{recordsFrom, wrapsIn};
+ghost use Rattle.filling.specs.Filled.{readMany, FillsTo};
+ghost use Rattle.filling.specs.Stages.{ReadAs, ringConditions, stripConditions};
+use super::fill_band;
+use super::fill_closed;
+use super::fill_whole;
+use super::rings::check_rings;
+use super::verdict::Verdict;
+use super::verdict::check_record;
+use loop_records::LoopRecord;
+use loop_records::wraps_of;
+use measuring::head::frame_of;
+use measuring::head::options_of;
+use measuring::head::surface_of;
+use measuring::measure::measure_loops;
+use measuring::refusals::wrapping_count;
+use records::read::Read;
+use records::read::kind;
+use records::read::read_corners;
+use records::read::read_counts;
+use records::read::read_head;
+use records::read::segments;
+use records::read::sense;
+use results::Path;
+use slices::at;
+use slices::shorter;
+use surfaces::surface::Surface;
+
+pub enum Filled {
+    // The path, and how many loops the result has.
+    Face { path: Path, loops: usize },
+    Refused { number: u8, place: usize },
+}
+
+// The path: whole where there are no loops, closed where none wraps. Only the other two paths need
+// the frame, which takes roots.
+fn fill_path(
+    sense: u8,
+    segments: u8,
+    head: &[f64],
+    given: &[usize],
+    corners: &mut [f64],
+    loops: [LoopRecord; 16],
+    wraps: &[i32],
+    surface: Surface,
+    t: &mut [f64; 7680],
+    counts: &mut [usize; 16],
+    areas: &mut [f64; 16],
+) -> Filled
+    ensures { λ r. ⌜ ((s : List ℕ) (kind : ℕ) → Accepted s → ReadAs s kind sense segments (now (head .entry)) (now (given .entry)) (now (corners .entry))
+        → loops ≡ placed 0 (recordsFrom (uPeriod surface) 0 (pieces (now (given .entry)) (rows (now (corners .entry))))) (replicate 16 noLoop)
+        → now (wraps .entry) ≡ wrapsIn s → surface ≡ surfaceIn s → verdict ringConditions s ≡ passes
+        → FillsTo (verdict stripConditions s) s r (now (counts .exit)) (now (areas .exit)) (now (t .exit))) ⌝ }
+{
+    if given.len() == 0 {
+        return fill_whole(
+            surface,
+            frame_of(head),
+            options_of(head, segments),
+            t,
+            counts,
+            areas,
+        );
+    }
+    if wrapping_count(wraps) == 0 {
+        return fill_closed(corners, given, loops, surface, t, counts, areas);
+    }
+    let frame = frame_of(head);
+    let options = options_of(head, segments);
+    fill_band(
+        corners,
+        given,
+        loops,
+        wraps,
+        frame,
+        surface,
+        options,
+        sense == 1,
+        t,
+        counts,
+        areas,
+    )
+}
+
+// A face as it is read: its loops are measured, the refusals 8 to 11 tested, and its path taken.
+fn fill_read(
+    kind: u8,
+    sense: u8,
+    segments: u8,
+    head: &[f64],
+    given: &[usize],
+    corners: &mut [f64],
+    t: &mut [f64; 7680],
+    counts: &mut [usize; 16],
+    areas: &mut [f64; 16],
+) -> Filled
+    ensures { λ r. ⌜ ((s : List ℕ) → Accepted s → ReadAs s kind sense segments (now (head .entry)) (now (given .entry)) (now (corners .entry))
+        → FillsTo (verdict laterConditions s) s r (now (counts .exit)) (now (areas .exit)) (now (t .exit))) ⌝ }
+{
+    let surface = surface_of(kind, at(head, 9), at(head, 10));
+    let loops = measure_loops(corners, given, surface.u_period());
+    let l = shorter(given.len(), 16);
+    let mut wraps = [0; 16];
+    wraps_of(loops, l, &mut wraps);
+    if let Verdict::Refuses { number, place } = check_rings(kind, corners, given, &wraps[..l]) {
+        return Filled::Refused { number, place };
+    }
+    fill_path(
+        sense,
+        segments,
+        head,
+        given,
+        corners,
+        loops,
+        &wraps[..l],
+        surface,
+        t,
+        counts,
+        areas,
+    )
+}
+
+// How many values were read: none where something was too short.
+fn read_many(read: Read) -> usize
+    ensures { λ r. ⌜ r ≡ readMany read ⌝ }
+{
+    match read {
+        Read::Count(n) => n,
+        Read::Refused => 0,
+    }
+}
+
+// A record that the refusals 2 to 7 let pass.
+fn fill_record(
+    face: &[u8],
+    t: &mut [f64; 7680],
+    counts: &mut [usize; 16],
+    areas: &mut [f64; 16],
+) -> Filled
+    ensures { λ r. ⌜ (Accepted (now (face .entry)) → FillsTo (verdict laterConditions (now (face .entry))) (now (face .entry)) r (now (counts .exit)) (now (areas .exit)) (now (t .exit))) ⌝ }
+{
+    let mut head = [0.0; 13];
+    let mut given = [0; 16];
+    let mut corners = [0.0; 2560];
+    read_head(face, &mut head);
+    let l = read_many(read_counts(face, &mut given));
+    let e = 5 * read_many(read_corners(face, &mut corners));
+    fill_read(
+        kind(face),
+        sense(face),
+        segments(face),
+        &head,
+        &given[..l],
+        &mut corners[..e],
+        t,
+        counts,
+        areas,
+    )
+}
+
+// The face of a record closed into lent tables: the corners of its result in the front of t, outer
+// loop first, a count and an area of each loop in the front of the others; or refused.
+pub fn fill_face(
+    face: &[u8],
+    t: &mut [f64; 7680],
+    counts: &mut [usize; 16],
+    areas: &mut [f64; 16],
+) -> Filled
+    ensures { λ r. ⌜ FillsTo (verdict (recordConditions ++ laterConditions) (now (face .entry))) (now (face .entry)) r (now (counts .exit)) (now (areas .exit)) (now (t .exit)) ⌝ }
+{
+    if let Verdict::Refuses { number, place } = check_record(face) {
+        return Filled::Refused { number, place };
+    }
+    fill_record(face, t, counts, areas)
+}

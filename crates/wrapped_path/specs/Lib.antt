@@ -1,3 +1,0 @@
-pub mod Band
-pub mod Result
-pub mod Face
