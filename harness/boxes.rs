@@ -22,12 +22,12 @@ pub fn compare(run: &Run) {
         let random = &mut check.random;
         let boxes = boxes(random);
         let areas = areas(random, boxes.len());
-        let columns = columns(random, &boxes);
+        let lent = lent(random, &boxes);
         for ((_, times), (_, meets)) in met.iter_mut().zip(kinds(&boxes, &areas)) {
             *times += u64::from(meets);
         }
-        let given = [columns.concat(), areas.clone()].concat();
-        let rattle = compared::outer_loop(&columns, &areas) as f64;
+        let given = [lent.clone(), areas.clone()].concat();
+        let rattle = compared::outer_loop(&lent, &areas) as f64;
         check.case(&given, &[rattle], &[all_pairs(&boxes, &areas) as f64]);
         // The Rust takes loops, whose lower ends lie above no upper one.
         if !boxes.is_empty() && areas.len() == boxes.len() && boxes.iter().all(a_loop_has) {
@@ -185,16 +185,13 @@ fn of_loops(boxes: &[Ends], areas: &[f64]) -> f64 {
     f64::from(outer.travel)
 }
 
-/// The four lists of ends; some are longer than the shortest, which says how many boxes there are.
-fn columns(random: &mut Random, boxes: &[Ends]) -> [Vec<f64>; 4] {
-    let shortest = random.below(4) as usize;
-    [0, 1, 2, 3].map(|end| {
-        let mut column: Vec<f64> = boxes.iter().map(|b| b[end]).collect();
-        if end != shortest && random.one_in(8) {
-            column.push(number(random));
-        }
-        column
-    })
+/// The ends, four to a box; at times up to three more reals, which are no box, stand behind them.
+fn lent(random: &mut Random, boxes: &[Ends]) -> Vec<f64> {
+    let mut out = boxes.concat();
+    if random.one_in(4) {
+        out.extend((0..1 + random.below(3)).map(|_| number(random)));
+    }
+    out
 }
 
 /// Mostly as many as there are boxes; at times none, one fewer, or up to two more.

@@ -3,14 +3,12 @@
 //!
 //!     compare [--seed N] [--times N] [--only LAYER]
 
-mod bands;
 mod boxes;
 mod branches;
 mod calls;
 #[cfg(closer)]
 mod closer;
 mod compared;
-mod compared_bands;
 #[cfg(closer)]
 mod demands;
 #[cfg(closer)]
@@ -53,7 +51,6 @@ const LAYERS: &[(&str, fn(&Run))] = &[
     ("boxes", boxes::compare),
     ("regions", regions::compare),
     ("whole", whole::compare),
-    ("bands", bands::compare),
     ("records", records::compare),
     ("results", results::compare),
     ("generator", generator::meet_everything),

@@ -1,7 +1,7 @@
 //! The Rattle crate `compared`, linked as a static library. Nothing checks these declarations
 //! against `crates/compared/src`: they must say the same.
 
-use crate::original::Frame;
+use crate::original::{Frame, Vec2, Vec3};
 use crate::shapes::Shape;
 
 #[repr(C)]
@@ -144,54 +144,34 @@ unsafe extern "C" {
     fn compared_inner_into(lo: f64, hi: f64, n: usize, out: *mut f64, out_len: usize) -> usize;
     #[link_name = "compared_nearest_branch"]
     pub safe fn nearest_branch(value: f64, reference: f64, period: f64) -> f64;
-    fn compared_net_wrap(u: *const f64, u_len: usize, period: f64) -> i32;
-    fn compared_signed_area(u: *const f64, u_len: usize, v: *const f64, v_len: usize) -> f64;
-    fn compared_mean_v(v: *const f64, v_len: usize) -> f64;
+    fn compared_net_wrap(t: *const f64, t_len: usize, period: f64) -> i32;
+    fn compared_signed_area(t: *const f64, t_len: usize) -> f64;
+    fn compared_mean_v(t: *const f64, t_len: usize) -> f64;
     fn compared_least(xs: *const f64, xs_len: usize) -> f64;
     fn compared_greatest(xs: *const f64, xs_len: usize) -> f64;
     fn compared_closed_region(
-        u: *const f64,
-        u_len: usize,
-        v: *const f64,
-        v_len: usize,
-        starts: *const usize,
-        starts_len: usize,
+        t: *const f64,
+        t_len: usize,
         counts: *const usize,
         counts_len: usize,
         areas: *const f64,
         areas_len: usize,
-        ulo: *mut f64,
-        ulo_len: usize,
-        uhi: *mut f64,
-        uhi_len: usize,
-        vlo: *mut f64,
-        vlo_len: usize,
-        vhi: *mut f64,
-        vhi_len: usize,
+        boxes: *mut f64,
+        boxes_len: usize,
     ) -> usize;
     fn compared_outer_loop(
-        ulo: *const f64,
-        ulo_len: usize,
-        uhi: *const f64,
-        uhi_len: usize,
-        vlo: *const f64,
-        vlo_len: usize,
-        vhi: *const f64,
-        vhi_len: usize,
+        boxes: *const f64,
+        boxes_len: usize,
         areas: *const f64,
         areas_len: usize,
     ) -> usize;
     fn compared_rephase_holes(
-        u: *mut f64,
-        u_len: usize,
-        v: *mut f64,
-        v_len: usize,
-        areas: *mut f64,
-        areas_len: usize,
-        starts: *const usize,
-        starts_len: usize,
+        t: *mut f64,
+        t_len: usize,
         counts: *const usize,
         counts_len: usize,
+        areas: *mut f64,
+        areas_len: usize,
         outer: usize,
         uperiod: f64,
         vperiod: f64,
@@ -212,16 +192,8 @@ unsafe extern "C" {
         sag: f64,
         angle: f64,
         segments: usize,
-        u: *mut f64,
-        u_len: usize,
-        v: *mut f64,
-        v_len: usize,
-        x: *mut f64,
-        x_len: usize,
-        y: *mut f64,
-        y_len: usize,
-        z: *mut f64,
-        z_len: usize,
+        t: *mut f64,
+        t_len: usize,
     ) -> f64;
     fn compared_refusal(face: *const u8, face_len: usize) -> u8;
     fn compared_refusal_place(face: *const u8, face_len: usize) -> usize;
@@ -237,19 +209,11 @@ unsafe extern "C" {
         dst: *mut f64,
         dst_len: usize,
     ) -> Counted;
-    fn compared_read_points(
+    fn compared_read_corners(
         face: *const u8,
         face_len: usize,
-        u: *mut f64,
-        u_len: usize,
-        v: *mut f64,
-        v_len: usize,
-        x: *mut f64,
-        x_len: usize,
-        y: *mut f64,
-        y_len: usize,
-        z: *mut f64,
-        z_len: usize,
+        t: *mut f64,
+        t_len: usize,
     ) -> Counted;
     fn compared_result_size(counts: *const usize, counts_len: usize) -> Room;
     fn compared_write_result(
@@ -258,34 +222,11 @@ unsafe extern "C" {
         counts_len: usize,
         areas: *const f64,
         areas_len: usize,
-        u: *const f64,
-        u_len: usize,
-        v: *const f64,
-        v_len: usize,
-        x: *const f64,
-        x_len: usize,
-        y: *const f64,
-        y_len: usize,
-        z: *const f64,
-        z_len: usize,
+        t: *const f64,
+        t_len: usize,
         out: *mut u8,
         out_len: usize,
     ) -> Counted;
-    fn compared_drop_repeats(
-        u: *mut f64,
-        u_len: usize,
-        v: *mut f64,
-        v_len: usize,
-        x: *mut f64,
-        x_len: usize,
-        y: *mut f64,
-        y_len: usize,
-        z: *mut f64,
-        z_len: usize,
-        n: usize,
-        ks: *mut usize,
-        ks_len: usize,
-    ) -> usize;
 }
 
 pub fn point_at(surface: &Surface, frame: Placement, u: f64, v: f64) -> Point {
@@ -335,16 +276,16 @@ pub fn inner_into(lo: f64, hi: f64, n: usize, out: &mut [f64]) -> usize {
     unsafe { compared_inner_into(lo, hi, n, out.as_mut_ptr(), out.len()) }
 }
 
-pub fn net_wrap(u: &[f64], period: f64) -> i32 {
-    unsafe { compared_net_wrap(u.as_ptr(), u.len(), period) }
+pub fn net_wrap(corners: &[f64], period: f64) -> i32 {
+    unsafe { compared_net_wrap(corners.as_ptr(), corners.len(), period) }
 }
 
-pub fn signed_area(u: &[f64], v: &[f64]) -> f64 {
-    unsafe { compared_signed_area(u.as_ptr(), u.len(), v.as_ptr(), v.len()) }
+pub fn signed_area(corners: &[f64]) -> f64 {
+    unsafe { compared_signed_area(corners.as_ptr(), corners.len()) }
 }
 
-pub fn mean_v(v: &[f64]) -> f64 {
-    unsafe { compared_mean_v(v.as_ptr(), v.len()) }
+pub fn mean_v(corners: &[f64]) -> f64 {
+    unsafe { compared_mean_v(corners.as_ptr(), corners.len()) }
 }
 
 pub fn least(xs: &[f64]) -> f64 {
@@ -355,59 +296,17 @@ pub fn greatest(xs: &[f64]) -> f64 {
     unsafe { compared_greatest(xs.as_ptr(), xs.len()) }
 }
 
-/// Of the first n corners; `ks` is room for the places of those that stay.
-pub fn drop_repeats(corners: &mut [Vec<f64>; 5], n: usize, ks: &mut [usize]) -> usize {
-    let [u, v, x, y, z] = corners;
-    unsafe {
-        compared_drop_repeats(
-            u.as_mut_ptr(),
-            u.len(),
-            v.as_mut_ptr(),
-            v.len(),
-            x.as_mut_ptr(),
-            x.len(),
-            y.as_mut_ptr(),
-            y.len(),
-            z.as_mut_ptr(),
-            z.len(),
-            n,
-            ks.as_mut_ptr(),
-            ks.len(),
-        )
-    }
-}
-
-/// Writes the boundary of a whole surface to u, v, x, y, z, and answers its area.
+/// Writes the boundary of a whole surface to the first rows, and answers its area.
 pub fn full_domain_loop(
     surface: &Surface,
     frame: Placement,
     tolerances: &Tolerances,
-    corners: &mut [Vec<f64>; 5],
+    corners: &mut [f64],
 ) -> f64 {
     let [a, b] = surface.sizes;
     let Tolerances { sag, angle, segments } = *tolerances;
-    let [u, v, x, y, z] = corners;
-    unsafe {
-        compared_full_domain_loop(
-            surface.kind,
-            a,
-            b,
-            frame,
-            sag,
-            angle,
-            segments,
-            u.as_mut_ptr(),
-            u.len(),
-            v.as_mut_ptr(),
-            v.len(),
-            x.as_mut_ptr(),
-            x.len(),
-            y.as_mut_ptr(),
-            y.len(),
-            z.as_mut_ptr(),
-            z.len(),
-        )
-    }
+    let (t, t_len) = (corners.as_mut_ptr(), corners.len());
+    unsafe { compared_full_domain_loop(surface.kind, a, b, frame, sag, angle, segments, t, t_len) }
 }
 
 /// The number and the place of refusals 2 to 7, or zeros.
@@ -427,26 +326,10 @@ pub fn read_head(face: &[u8], lent: &mut [f64]) -> Option<usize> {
     unsafe { compared_read_head(face.as_ptr(), face.len(), lent.as_mut_ptr(), lent.len()) }.number()
 }
 
-/// How many points there are; u, v, x, y, z are written.
-pub fn read_points(face: &[u8], lent: &mut [Vec<f64>; 5]) -> Option<usize> {
-    let [u, v, x, y, z] = lent;
-    let read = unsafe {
-        compared_read_points(
-            face.as_ptr(),
-            face.len(),
-            u.as_mut_ptr(),
-            u.len(),
-            v.as_mut_ptr(),
-            v.len(),
-            x.as_mut_ptr(),
-            x.len(),
-            y.as_mut_ptr(),
-            y.len(),
-            z.as_mut_ptr(),
-            z.len(),
-        )
-    };
-    read.number()
+/// How many points there are; they are written, a row each.
+pub fn read_corners(face: &[u8], lent: &mut [f64]) -> Option<usize> {
+    unsafe { compared_read_corners(face.as_ptr(), face.len(), lent.as_mut_ptr(), lent.len()) }
+        .number()
 }
 
 /// The corners and the length of a result record with these counts.
@@ -460,7 +343,7 @@ pub fn write_result(
     path: u32,
     counts: &[usize],
     areas: &[f64],
-    [u, v, x, y, z]: &[Vec<f64>; 5],
+    corners: &[f64],
     out: &mut [u8],
 ) -> Option<usize> {
     let written = unsafe {
@@ -470,16 +353,8 @@ pub fn write_result(
             counts.len(),
             areas.as_ptr(),
             areas.len(),
-            u.as_ptr(),
-            u.len(),
-            v.as_ptr(),
-            v.len(),
-            x.as_ptr(),
-            x.len(),
-            y.as_ptr(),
-            y.len(),
-            z.as_ptr(),
-            z.len(),
+            corners.as_ptr(),
+            corners.len(),
             out.as_mut_ptr(),
             out.len(),
         )
@@ -487,77 +362,53 @@ pub fn write_result(
     written.number()
 }
 
-/// The loops of a face as parallel arrays: loop k has counts[k] points from starts[k] on.
+/// Corners as the rows of a table: u, v, x, y, z.
+pub fn rows(uv: &[Vec2], xyz: &[Vec3]) -> Vec<f64> {
+    uv.iter().zip(xyz).flat_map(|(c, p)| [c.u, c.v, p.x, p.y, p.z]).collect()
+}
+
+/// The loops of a face: their corners one behind the other, the rows of a table.
 #[derive(Clone, Default)]
 pub struct Table {
-    pub u: Vec<f64>,
-    pub v: Vec<f64>,
-    pub starts: Vec<usize>,
+    pub corners: Vec<f64>,
     pub counts: Vec<usize>,
     pub areas: Vec<f64>,
 }
 
 /// The number of the outer loop.
 pub fn closed_region(table: &Table) -> usize {
-    let Table { u, v, starts, counts, areas } = table;
-    let [mut ulo, mut uhi, mut vlo, mut vhi] = [(); 4].map(|_| vec![0.0; counts.len()]);
+    let Table { corners, counts, areas } = table;
+    let mut boxes = vec![0.0; 4 * counts.len()];
     unsafe {
         compared_closed_region(
-            u.as_ptr(),
-            u.len(),
-            v.as_ptr(),
-            v.len(),
-            starts.as_ptr(),
-            starts.len(),
+            corners.as_ptr(),
+            corners.len(),
             counts.as_ptr(),
             counts.len(),
             areas.as_ptr(),
             areas.len(),
-            ulo.as_mut_ptr(),
-            ulo.len(),
-            uhi.as_mut_ptr(),
-            uhi.len(),
-            vlo.as_mut_ptr(),
-            vlo.len(),
-            vhi.as_mut_ptr(),
-            vhi.len(),
+            boxes.as_mut_ptr(),
+            boxes.len(),
         )
     }
 }
 
-/// The number of the outer loop, by the four lists of the boxes' ends and the areas.
-pub fn outer_loop([ulo, uhi, vlo, vhi]: &[Vec<f64>; 4], areas: &[f64]) -> usize {
-    unsafe {
-        compared_outer_loop(
-            ulo.as_ptr(),
-            ulo.len(),
-            uhi.as_ptr(),
-            uhi.len(),
-            vlo.as_ptr(),
-            vlo.len(),
-            vhi.as_ptr(),
-            vhi.len(),
-            areas.as_ptr(),
-            areas.len(),
-        )
-    }
+/// The number of the outer loop, by the ends of the boxes, four to a box, and the areas.
+pub fn outer_loop(boxes: &[f64], areas: &[f64]) -> usize {
+    unsafe { compared_outer_loop(boxes.as_ptr(), boxes.len(), areas.as_ptr(), areas.len()) }
 }
 
 /// Moves all loops but the outer one. The period of an open direction is 0.
 pub fn rephase_holes(table: &mut Table, outer: usize, [uperiod, vperiod]: [f64; 2]) {
-    let Table { u, v, starts, counts, areas } = table;
+    let Table { corners, counts, areas } = table;
     unsafe {
         compared_rephase_holes(
-            u.as_mut_ptr(),
-            u.len(),
-            v.as_mut_ptr(),
-            v.len(),
-            areas.as_mut_ptr(),
-            areas.len(),
-            starts.as_ptr(),
-            starts.len(),
+            corners.as_mut_ptr(),
+            corners.len(),
             counts.as_ptr(),
             counts.len(),
+            areas.as_mut_ptr(),
+            areas.len(),
             outer,
             uperiod,
             vperiod,

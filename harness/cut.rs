@@ -77,7 +77,6 @@ fn taken(all: &[Declaration], cut: &Cut) -> Result<Vec<Token>, String> {
     let mut tokens = match &cut.members {
         Members::All => whole(find(all, cut.name)?)?,
         Members::Only(members) => part(all, cut.name, members)?,
-        Members::Stretch { from, to, head } => stretch(find(all, cut.name)?, from, to, head)?,
     };
     for edit in &cut.edits {
         tokens = edit.apply(&tokens)?;
@@ -132,27 +131,6 @@ fn part(all: &[Declaration], name: &str, members: &[&str]) -> Result<Vec<Token>,
         kept.extend(made_public(&find(&inside, member)?.tokens)?);
     }
     with_body(&first.tokens, &kept)
-}
-
-/// Statements of a function as a function of their own.
-fn stretch(found: &Declaration, from: &str, to: &str, head: &str) -> Result<Vec<Token>, String> {
-    let inside = &found.tokens[body(&found.tokens)?];
-    let place = |text: &str| {
-        let wanted = tokens_of(text)?;
-        let mut at = (0..inside.len()).filter(|i| edit::begins_with(&inside[*i..], &wanted));
-        match (at.next(), at.next()) {
-            (Some(only), None) => Ok(only),
-            _ => Err(format!("not found once: {text}")),
-        }
-    };
-    let (start, end) = (place(from)?, place(to)?);
-    if end < start {
-        return Err(format!("{to} stands before {from}"));
-    }
-    let mut out = tokens_of(&format!("{head} {{"))?;
-    out.extend_from_slice(&inside[start..end]);
-    out.extend(tokens_of("\n}")?);
-    Ok(out)
 }
 
 fn public_all(all: &[Declaration]) -> Result<Vec<Token>, String> {

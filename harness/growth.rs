@@ -59,13 +59,11 @@ fn least_times(loops: &[UvLoop], rounds: u32) -> [Duration; 2] {
 }
 
 fn table(loops: &[UvLoop]) -> Table {
-    let corners = || loops.iter().flat_map(|l| &l.uv);
+    let corners = loops.iter().flat_map(|l| &l.uv);
     Table {
-        starts: (0..loops.len()).map(|i| 4 * i).collect(),
+        corners: corners.flat_map(|p| [p.u, p.v, 0.0, 0.0, 0.0]).collect(),
         counts: loops.iter().map(|l| l.uv.len()).collect(),
         areas: loops.iter().map(|l| l.area).collect(),
-        u: corners().map(|p| p.u).collect(),
-        v: corners().map(|p| p.v).collect(),
     }
 }
 

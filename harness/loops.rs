@@ -1,10 +1,9 @@
 //! The leaf functions on one loop against the Rust.
 
 use crate::compared;
-use crate::faces::columns;
 use crate::items::H;
 use crate::original::{
-    Domain, Interval, Vec2, Vec3, drop_repeats, mean_v, nearest_branch, net_wrap, signed_area, span,
+    Domain, Interval, Vec2, mean_v, nearest_branch, net_wrap, signed_area, span,
 };
 use crate::patterns::{few_edges, number};
 use crate::random::Random;
@@ -19,7 +18,6 @@ pub fn compare(run: &Run) {
     areas(run);
     means(run);
     spans(run);
-    repeats(run);
 }
 
 fn branches(run: &Run) {
@@ -83,7 +81,7 @@ fn wraps(run: &Run) {
 }
 
 fn wrap(u: &[f64], period: f64) -> f64 {
-    f64::from(compared::net_wrap(u, period))
+    f64::from(compared::net_wrap(&rows(u, &[]), period))
 }
 
 /// The Rust has no period where the port has the period 0.
@@ -99,7 +97,7 @@ fn areas(run: &Run) {
         let u = reals(&mut check.random);
         let v: Vec<f64> = u.iter().map(|_| parameter(&mut check.random)).collect();
         let rust = signed_area(&pairs(&u, &v));
-        check.case(&[&u[..], &v].concat(), &[compared::signed_area(&u, &v)], &[rust]);
+        check.case(&[&u[..], &v].concat(), &[compared::signed_area(&rows(&u, &v))], &[rust]);
     }
     check.done();
 }
@@ -108,7 +106,11 @@ fn means(run: &Run) {
     let mut check = run.check("mean_v");
     for _ in 0..run.times * CASES {
         let v = reals(&mut check.random);
-        check.case(&v, &[compared::mean_v(&v)], &[mean_v(&pairs(&v, &v))]);
+        check.case(
+            &v,
+            &[compared::mean_v(&rows(&vec![f64::NAN; v.len()], &v))],
+            &[mean_v(&pairs(&v, &v))],
+        );
     }
     check.done();
 }
@@ -122,42 +124,6 @@ fn spans(run: &Run) {
         check.case(&xs, &[compared::least(&xs), compared::greatest(&xs)], &[lo, hi]);
     }
     check.done();
-}
-
-fn repeats(run: &Run) {
-    let mut check = run.check("drop_repeats");
-    for _ in 0..run.times * CASES {
-        let given = corners(&mut check.random);
-        let (mut uv, mut xyz) = (pairs(&given[0], &given[1]), points(&given));
-        drop_repeats(&mut uv, &mut xyz);
-        let mut left = given.clone();
-        let n = given[0].len();
-        let kept = compared::drop_repeats(&mut left, n, &mut vec![0; n]);
-        let rattle = left.map(|column| column[..kept].to_vec()).concat();
-        check.case(&given.concat(), &rattle, &columns(&uv, &xyz).concat());
-    }
-    check.done();
-}
-
-/// Corners of few positions, so that many repeat; zeros of both signs, and now and then a NaN.
-fn corners(random: &mut Random) -> [Vec<f64>; 5] {
-    let n = if random.one_in(64) { random.below(1200) } else { random.below(14) };
-    let few = 1 + random.below(4);
-    let mut out = [const { Vec::new() }; 5];
-    for i in 0..n {
-        let place = random.below(few) as f64;
-        let zero = random.choose(&[0.0, 0.0, -0.0]);
-        let z = if random.one_in(256) { f64::NAN } else { zero };
-        for (column, x) in out.iter_mut().zip([i as f64, -(i as f64), place, zero, z]) {
-            column.push(x);
-        }
-    }
-    out
-}
-
-fn points(columns: &[Vec<f64>; 5]) -> Vec<Vec3> {
-    let [_, _, x, y, z] = columns;
-    (0..x.len()).map(|i| Vec3::new(x[i], y[i], z[i])).collect()
 }
 
 /// A list of reals: parameters, zeros of both signs, or any patterns; at times none or many.
@@ -187,4 +153,14 @@ fn parameter(random: &mut Random) -> f64 {
 
 fn pairs(u: &[f64], v: &[f64]) -> Vec<Vec2> {
     u.iter().zip(v).map(|(u, v)| Vec2::new(*u, *v)).collect()
+}
+
+/// A table of these u, and v as far as there are any. What is not asked for is a NaN, which an answer
+/// that takes it in would show, and so is what at times stands behind the last row.
+fn rows(u: &[f64], v: &[f64]) -> Vec<f64> {
+    let nan = f64::NAN;
+    let v = v.iter().copied().chain(std::iter::repeat(nan));
+    let mut out: Vec<f64> = u.iter().zip(v).flat_map(|(u, v)| [*u, v, nan, nan, nan]).collect();
+    out.resize(out.len() + u.len() % 5, nan);
+    out
 }

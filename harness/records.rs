@@ -3,7 +3,7 @@
 
 use crate::calls::{call, face};
 use crate::compared;
-use crate::faces::{Face, columns};
+use crate::faces::Face;
 use crate::judge::{Answer, check, face_record, six_bytes};
 use crate::random::Random;
 use crate::report::{Check, Run};
@@ -35,9 +35,9 @@ fn checks(run: &Run) {
 }
 
 /// Accepted records give back what they were made of. Nothing is written where the record ends too
-/// early or a lent list is too short.
+/// early or what is lent is too short.
 fn readings(run: &Run) {
-    let mut read = run.check("read_counts, read_head, read_points");
+    let mut read = run.check("read_counts, read_head, read_corners");
     for _ in 0..run.times * READ {
         let face = face(&mut read.random);
         let mut record = face_record(&face);
@@ -49,7 +49,7 @@ fn readings(run: &Run) {
         }
         read_counts(&mut read, &face, &record);
         read_head(&mut read, &face, &record);
-        read_points(&mut read, &face, &record);
+        read_corners(&mut read, &face, &record);
     }
     read.done();
 }
@@ -58,9 +58,9 @@ fn read_counts(check: &mut Check, face: &Face, record: &[u8]) {
     let counts: Vec<usize> = face.loops.iter().map(|l| l.uv.len()).collect();
     let fits = record.len() >= 5 + 2 * counts.len();
     let mut lent = vec![UNTOUCHED; room(&mut check.random, counts.len())];
-    let expected = after(fits, &[counts], &[lent.clone()]);
+    let expected = after(fits, 1, &counts, &lent);
     let number = compared::read_counts(record, &mut lent);
-    compare_lent(check, face, record, (number, [lent]), expected);
+    compare_lent(check, face, record, (number, lent), expected);
 }
 
 fn read_head(check: &mut Check, face: &Face, record: &[u8]) {
@@ -68,22 +68,28 @@ fn read_head(check: &mut Check, face: &Face, record: &[u8]) {
     let head = [&shape.placement[..], &shape.sizes, &[shape.sag, shape.angle]].concat();
     let fits = record.len() >= 5 + 2 * face.loops.len() + 8 * 13;
     let mut lent = vec![UNTOUCHED as f64; room(&mut check.random, 13)];
-    let expected = after(fits, &[head], &[lent.clone()]);
+    let expected = after(fits, 1, &head, &lent);
     let number = compared::read_head(record, &mut lent);
-    compare_lent(check, face, record, (number, [lent]), expected);
+    compare_lent(check, face, record, (number, lent), expected);
 }
 
-fn read_points(check: &mut Check, face: &Face, record: &[u8]) {
-    let uv: Vec<_> = face.loops.iter().flat_map(|l| l.uv.clone()).collect();
-    let xyz: Vec<_> = face.loops.iter().flat_map(|l| l.xyz.clone()).collect();
-    let points = columns(&uv, &xyz);
+fn read_corners(check: &mut Check, face: &Face, record: &[u8]) {
+    let corners: Vec<f64> = face.loops.iter().flat_map(|l| compared::rows(&l.uv, &l.xyz)).collect();
     let fits = record.len() == face_record(face).len();
-    let mut lent = [0; 5].map(|_| vec![UNTOUCHED as f64; points[0].len() + 2]);
-    let short = check.random.below(5) as usize;
-    lent[short].truncate(room(&mut check.random, points[0].len()));
-    let expected = after(fits, &points, &lent);
-    let number = compared::read_points(record, &mut lent);
+    let mut lent = vec![UNTOUCHED as f64; room_for_rows(&mut check.random, corners.len())];
+    let expected = after(fits, 5, &corners, &lent);
+    let number = compared::read_corners(record, &mut lent);
     compare_lent(check, face, record, (number, lent), expected);
+}
+
+/// So many reals; now and then the last row lacks some or all of its reals, or up to two more rows
+/// stand behind it, the last of them cut off.
+fn room_for_rows(random: &mut Random, n: usize) -> usize {
+    match random.below(4) {
+        0 => n.saturating_sub(1 + random.below(5) as usize),
+        1 => n + 1 + random.below(10) as usize,
+        _ => n,
+    }
 }
 
 /// So many places, one less now and then, or some more.
@@ -95,22 +101,15 @@ fn room(random: &mut Random, n: usize) -> usize {
     }
 }
 
-/// How many values are read to each list, and the lists after that: as they were where it does not
-/// fit, or one of them is too short.
-fn after<T: Copy, const N: usize>(
-    fits: bool,
-    values: &[Vec<T>; N],
-    lent: &[Vec<T>; N],
-) -> (Option<usize>, [Vec<T>; N]) {
-    let n = values[0].len();
-    let mut lists = lent.clone();
-    if !fits || lent.iter().any(|list| list.len() < n) {
-        return (None, lists);
+/// How many values of `each` places are read, and the list after that: as it was where they do not
+/// fit.
+fn after<T: Copy>(fits: bool, each: usize, values: &[T], lent: &[T]) -> (Option<usize>, Vec<T>) {
+    let mut list = lent.to_vec();
+    if !fits || lent.len() < values.len() {
+        return (None, list);
     }
-    for (list, of_values) in lists.iter_mut().zip(values) {
-        list[..n].copy_from_slice(of_values);
-    }
-    (Some(n), lists)
+    list[..values.len()].copy_from_slice(values);
+    (Some(values.len() / each), list)
 }
 
 trait Number: Copy {
@@ -129,16 +128,16 @@ impl Number for f64 {
     }
 }
 
-fn compare_lent<T: Number, const N: usize>(
+fn compare_lent<T: Number>(
     check: &mut Check,
     face: &Face,
     record: &[u8],
-    rattle: (Option<usize>, [Vec<T>; N]),
-    expected: (Option<usize>, [Vec<T>; N]),
+    rattle: (Option<usize>, Vec<T>),
+    expected: (Option<usize>, Vec<T>),
 ) {
-    let reals = |(number, lists): (Option<usize>, [Vec<T>; N])| {
+    let reals = |(number, list): (Option<usize>, Vec<T>)| {
         let mut out = vec![number.map_or(-1.0, |n| n as f64)];
-        out.extend(lists.iter().flatten().map(|x| x.real()));
+        out.extend(list.iter().map(|x| x.real()));
         out
     };
     let given = [vec![record.len() as f64], face.reals()].concat();

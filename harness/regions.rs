@@ -20,14 +20,14 @@ pub fn compare(run: &Run) {
     check.done();
 }
 
-/// The number of the outer loop, then of each loop in file order its area, u and v.
+/// The number of the outer loop, then of each loop in file order its area, and its corners.
 fn rattle_region(face: &Face) -> Vec<f64> {
     let mut table = table(&loops_of(face));
     let outer = compared::closed_region(&table);
     let domain = face.shape.surface().domain();
     let periods = [domain.u_period, domain.v_period].map(|p| p.unwrap_or(0.0));
     compared::rephase_holes(&mut table, outer, periods);
-    [vec![outer as f64], table.areas, table.u, table.v].concat()
+    [vec![outer as f64], table.areas, table.corners].concat()
 }
 
 fn rust_region(face: &Face) -> Vec<f64> {
@@ -41,17 +41,13 @@ fn rust_region(face: &Face) -> Vec<f64> {
     let number = outer.travel;
     holes.insert(number as usize, outer);
     let table = table(&holes);
-    [vec![f64::from(number)], table.areas, table.u, table.v].concat()
+    [vec![f64::from(number)], table.areas, table.corners].concat()
 }
 
 fn table(loops: &[UvLoop]) -> Table {
-    let mut out = Table::default();
-    for one in loops {
-        out.starts.push(out.u.len());
-        out.counts.push(one.uv.len());
-        out.areas.push(one.area);
-        out.u.extend(one.uv.iter().map(|p| p.u));
-        out.v.extend(one.uv.iter().map(|p| p.v));
+    Table {
+        corners: loops.iter().flat_map(|one| compared::rows(&one.uv, &one.xyz)).collect(),
+        counts: loops.iter().map(|one| one.uv.len()).collect(),
+        areas: loops.iter().map(|one| one.area).collect(),
     }
-    out
 }

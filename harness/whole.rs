@@ -1,7 +1,6 @@
 //! The whole path against the Rust: the boundary of a surface that no loop trims.
 
-use crate::compared::{full_domain_count, full_domain_loop};
-use crate::faces::columns;
+use crate::compared::{full_domain_count, full_domain_loop, rows};
 use crate::original;
 use crate::report::{Check, Run};
 use crate::shapes::{KINDS, Kind, Shape, at_limits, shape};
@@ -32,22 +31,18 @@ pub fn compare(run: &Run) {
 /// The corners with the area and the count, and what is left of the lent places.
 fn boundary(check: &mut Check, edge: bool, shape: &Shape) {
     let (area, corners) = rust_boundary(shape);
-    let n = corners[0].len();
+    let n = corners.len();
     let count = full_domain_count(&shape.numbered(), &shape.tolerances());
-    check.see(edge, &shape.reals(), &[count as f64], &[n as f64]);
+    check.see(edge, &shape.reals(), &[count as f64], &[(n / 5) as f64]);
 
-    let spare = check.random.choose(&[0, 1, 7]);
-    let lent = [0; 5].map(|_| vec![UNTOUCHED; n + spare]);
-    let mut expected = lent.clone();
-    for (list, of_corners) in expected.iter_mut().zip(&corners) {
-        list[..n].copy_from_slice(of_corners);
-    }
+    // Reals behind the last row, or a row more and some behind it.
+    let lent = vec![UNTOUCHED; n + check.random.choose(&[0, 1, 7])];
+    let expected = [&corners[..], &lent[n..]].concat();
     see_lent(check, edge, shape, lent.clone(), (area, expected));
 
     if n > 0 {
-        let mut lent = lent;
-        lent[check.random.below(5) as usize].truncate(n - 1);
-        see_lent(check, edge, shape, lent.clone(), (0.0, lent));
+        let few = lent[..n - 1 - check.random.below(5) as usize].to_vec();
+        see_lent(check, edge, shape, few.clone(), (area, few));
     }
 }
 
@@ -56,21 +51,21 @@ fn see_lent(
     check: &mut Check,
     edge: bool,
     shape: &Shape,
-    mut lent: [Vec<f64>; 5],
-    (area, expected): (f64, [Vec<f64>; 5]),
+    mut lent: Vec<f64>,
+    (area, expected): (f64, Vec<f64>),
 ) {
-    let given = [shape.reals(), lent.iter().map(|list| list.len() as f64).collect()].concat();
+    let given = [shape.reals(), vec![lent.len() as f64]].concat();
     let answer =
         full_domain_loop(&shape.numbered(), shape.placed(), &shape.tolerances(), &mut lent);
-    let all = |area, lists: [Vec<f64>; 5]| [vec![area], lists.concat()].concat();
+    let all = |area, list: Vec<f64>| [vec![area], list].concat();
     check.see(edge, &given, &all(answer, lent), &all(area, expected));
 }
 
-/// The area, and u, v, x, y, z of the corners. Where the Rust has no boundary there are none.
-fn rust_boundary(shape: &Shape) -> (f64, [Vec<f64>; 5]) {
+/// The area, and the corners, a row each. Where the Rust has no boundary there are none.
+fn rust_boundary(shape: &Shape) -> (f64, Vec<f64>) {
     let surface = shape.surface();
     match original::full_domain_loop(&surface, &surface.domain(), &shape.resolved()) {
-        Err(_) => (0.0, Default::default()),
-        Ok(outer) => (outer.area, columns(&outer.uv, &outer.xyz)),
+        Err(_) => (0.0, Vec::new()),
+        Ok(outer) => (outer.area, rows(&outer.uv, &outer.xyz)),
     }
 }

@@ -16,13 +16,6 @@ pub enum Members {
     All,
     /// Of an `impl` or an `enum` only these.
     Only(&'static [&'static str]),
-    /// Of a function the statements from the first text on and before the second, under a head of
-    /// our own.
-    Stretch {
-        from: &'static str,
-        to: &'static str,
-        head: &'static str,
-    },
 }
 
 const MATH: &str = "native/crates/cad-ir/src/math.rs";
@@ -70,11 +63,6 @@ fn cut(file: &'static str, name: &'static str) -> Cut {
 impl Cut {
     fn only(mut self, members: &'static [&'static str]) -> Cut {
         self.members = Members::Only(members);
-        self
-    }
-
-    fn stretch(mut self, from: &'static str, to: &'static str, head: &'static str) -> Cut {
-        self.members = Members::Stretch { from, to, head };
         self
     }
 
@@ -209,7 +197,7 @@ fn surfaces() -> Vec<Cut> {
     ]
 }
 
-/// The leaf functions on one loop, and the dropping of repeats.
+/// The leaf functions on one loop.
 fn loops() -> Vec<Cut> {
     vec![
         cut(FACE, "fn nearest_branch"),
@@ -217,11 +205,6 @@ fn loops() -> Vec<Cut> {
         cut(FACE, "fn signed_area"),
         cut(FACE, "fn mean_v"),
         cut(FACE, "fn span").order(1, 1),
-        repeats_by_items(cut(FACE, "fn close_strip").stretch(
-            "let mut cut = 0;",
-            "UvLoop {",
-            "pub fn drop_repeats(uv: &mut Vec<Vec2>, xyz: &mut Vec<Vec3>)",
-        )),
     ]
 }
 

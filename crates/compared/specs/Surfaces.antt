@@ -1,7 +1,7 @@
 -- A surface, its tolerances and its domain as they cross to another language.
 use Prim.Native.Nat.{ℕ, zero, suc}
 use mathlib.Core.Bool.{Bool, cond}
-use lib.Ieee.{Float}
+use lib.Ieee.{Float, eq}
 use Rattle.numbers.specs.Constants.{plusZero}
 use Rattle.surfaces.specs.declared.options.Resolved.{Resolved}
 use Rattle.surfaces.specs.declared.steps.Axis.{Axis}
@@ -31,6 +31,9 @@ resolvedOf s a n = record { sag = s; angle = a; «min_edge_segments» = n }
 abbrev pub lengthOf : Period → Float
 lengthOf (Every p) = p
 lengthOf None = plusZero
+
+abbrev pub periodOf : Float → Period
+periodOf p = cond (eq p plusZero) None (Every p)
 
 abbrev pub limitsOf : Domain → Limits
 limitsOf d =

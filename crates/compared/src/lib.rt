@@ -4,7 +4,6 @@ pub mod of_loops;
 pub mod of_numbers;
 pub mod of_records;
 pub mod of_regions;
-pub mod of_repeats;
 pub mod of_results;
 pub mod of_surfaces;
 pub mod of_whole;

@@ -1,10 +1,12 @@
-// The leaf functions on one loop.
+// The leaf functions on one loop; `t` is its table of corners.
 ghost use mathlib.Core.Path.{_≡_};
 ghost use Rattle.loops.specs.Area.{areaOf};
 ghost use Rattle.loops.specs.Branch.{nearestBranch};
 ghost use Rattle.loops.specs.Mean.{meanOf};
 ghost use Rattle.loops.specs.Span.{leastOf, greatestOf};
 ghost use Rattle.loops.specs.Wrap.{netWrap};
+ghost use Rattle.tables.specs.Corners.{us, vs};
+ghost use Rattle.tables.specs.Rows.{rows};
 
 #[no_mangle]
 pub extern "C" fn compared_nearest_branch(value: f64, reference: f64, period: f64) -> f64
@@ -14,24 +16,24 @@ pub extern "C" fn compared_nearest_branch(value: f64, reference: f64, period: f6
 }
 
 #[no_mangle]
-pub extern "C" fn compared_net_wrap(u: &[f64], period: f64) -> i32
-    ensures { λ r. ⌜ r ≡ netWrap (now (u .entry)) period ⌝ }
+pub extern "C" fn compared_net_wrap(t: &[f64], period: f64) -> i32
+    ensures { λ r. ⌜ r ≡ netWrap (us (rows (now (t .entry)))) period ⌝ }
 {
-    loops::wrap::net_wrap(u, period)
+    loops::rows::net_wrap(t, period)
 }
 
 #[no_mangle]
-pub extern "C" fn compared_signed_area(u: &[f64], v: &[f64]) -> f64
-    ensures { λ r. ⌜ r ≡ areaOf (now (u .entry)) (now (v .entry)) ⌝ }
+pub extern "C" fn compared_signed_area(t: &[f64]) -> f64
+    ensures { λ r. ⌜ r ≡ areaOf (us (rows (now (t .entry)))) (vs (rows (now (t .entry)))) ⌝ }
 {
-    loops::area::signed_area(u, v)
+    loops::rows::signed_area(t)
 }
 
 #[no_mangle]
-pub extern "C" fn compared_mean_v(v: &[f64]) -> f64
-    ensures { λ r. ⌜ r ≡ meanOf (now (v .entry)) ⌝ }
+pub extern "C" fn compared_mean_v(t: &[f64]) -> f64
+    ensures { λ r. ⌜ r ≡ meanOf (vs (rows (now (t .entry)))) ⌝ }
 {
-    loops::mean::mean_v(v)
+    wrapped_region::mean::mean_v(t)
 }
 
 #[no_mangle]

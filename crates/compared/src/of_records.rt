@@ -1,11 +1,11 @@
 // The check of a face record, and what is read of one.
 ghost use mathlib.Core.Path.{_≡_};
-ghost use mathlib.Core.List.{map};
 ghost use lib.ListN.{length};
 ghost use Rattle.records.specs.Answers.{numberOf, placeIn};
-ghost use Rattle.records.specs.Face.{counts, head, points, parameters, positions};
-ghost use Rattle.records.specs.Lent.{filledIf, readIf, countsFit, headFits, pointsFit, least5, uOf, vOf, xOf, yOf, zOf};
+ghost use Rattle.records.specs.Face.{counts, head, cornersIn};
+ghost use Rattle.records.specs.Lent.{filledIf, readIf, countsFit, headFits, pointsFit};
 ghost use Rattle.records.specs.Refusals.{recordConditions, verdict};
+ghost use Rattle.tables.specs.Rows.{rows};
 ghost use Rattle.compared.specs.Records.{readOf};
 use records::read::Read;
 
@@ -57,20 +57,9 @@ pub extern "C" fn compared_read_head(face: &[u8], dst: &mut [f64]) -> Counted
 }
 
 #[no_mangle]
-pub extern "C" fn compared_read_points(
-    face: &[u8],
-    u: &mut [f64],
-    v: &mut [f64],
-    x: &mut [f64],
-    y: &mut [f64],
-    z: &mut [f64],
-) -> Counted
-    ensures { λ r. ⌜ r ≡ readOf (readIf (pointsFit (now (face .entry)) (least5 (length (now (u .entry))) (length (now (v .entry))) (length (now (x .entry))) (length (now (y .entry))) (length (now (z .entry))))) (points (now (face .entry)))) ⌝ }
-    ensures { λ _. ⌜ now (u .exit) ≡ filledIf (pointsFit (now (face .entry)) (least5 (length (now (u .entry))) (length (now (v .entry))) (length (now (x .entry))) (length (now (y .entry))) (length (now (z .entry))))) (map uOf (parameters (now (face .entry)))) (now (u .entry)) ⌝ }
-    ensures { λ _. ⌜ now (v .exit) ≡ filledIf (pointsFit (now (face .entry)) (least5 (length (now (u .entry))) (length (now (v .entry))) (length (now (x .entry))) (length (now (y .entry))) (length (now (z .entry))))) (map vOf (parameters (now (face .entry)))) (now (v .entry)) ⌝ }
-    ensures { λ _. ⌜ now (x .exit) ≡ filledIf (pointsFit (now (face .entry)) (least5 (length (now (u .entry))) (length (now (v .entry))) (length (now (x .entry))) (length (now (y .entry))) (length (now (z .entry))))) (map xOf (positions (now (face .entry)))) (now (x .entry)) ⌝ }
-    ensures { λ _. ⌜ now (y .exit) ≡ filledIf (pointsFit (now (face .entry)) (least5 (length (now (u .entry))) (length (now (v .entry))) (length (now (x .entry))) (length (now (y .entry))) (length (now (z .entry))))) (map yOf (positions (now (face .entry)))) (now (y .entry)) ⌝ }
-    ensures { λ _. ⌜ now (z .exit) ≡ filledIf (pointsFit (now (face .entry)) (least5 (length (now (u .entry))) (length (now (v .entry))) (length (now (x .entry))) (length (now (y .entry))) (length (now (z .entry))))) (map zOf (positions (now (face .entry)))) (now (z .entry)) ⌝ }
+pub extern "C" fn compared_read_corners(face: &[u8], t: &mut [f64]) -> Counted
+    ensures { λ r. ⌜ r ≡ readOf (readIf (pointsFit (now (face .entry)) (length (rows (now (t .entry))))) (length (cornersIn (now (face .entry))))) ⌝ }
+    ensures { λ _. ⌜ rows (now (t .exit)) ≡ filledIf (pointsFit (now (face .entry)) (length (rows (now (t .entry))))) (cornersIn (now (face .entry))) (rows (now (t .entry))) ⌝ }
 {
-    read_of(records::read::read_points(face, u, v, x, y, z))
+    read_of(records::read::read_corners(face, t))
 }

@@ -1,59 +1,51 @@
 // The closed path: which loop is the outer one, and the holes moved onto its branch.
 ghost use mathlib.Core.Path.{_≡_};
-ghost use mathlib.Core.Bool.{true, false};
-ghost use Rattle.regions.specs.Closed.{closedRegion};
+ghost use mathlib.Core.List.{map};
+ghost use lib.ListN.{length};
+ghost use Rattle.lists.specs.Pieces.{pieces};
+ghost use Rattle.lists.specs.Placed.{placed};
+ghost use Rattle.surfaces.specs.Domains.{periodLength};
+ghost use Rattle.tables.specs.Rows.{rows};
+ghost use Rattle.regions.specs.Holes.{rephasedRows, rephasedAreas};
+ghost use Rattle.regions.specs.Loops.{boxIn, boxesIn};
 ghost use Rattle.regions.specs.Outer.{outerOf};
-ghost use Rattle.regions.specs.Rephase.{arrays, rephaseHoles};
-ghost use Rattle.regions.specs.Table.{boxesFrom, endsInto};
+ghost use Rattle.regions.specs.Region.{outerAmong};
+ghost use Rattle.compared.specs.Surfaces.{periodOf};
+use super::of_surfaces::period_of;
 
 #[no_mangle]
 pub extern "C" fn compared_closed_region(
-    u: &[f64],
-    v: &[f64],
-    starts: &[usize],
+    t: &[f64],
     counts: &[usize],
     areas: &[f64],
-    ulo: &mut [f64],
-    uhi: &mut [f64],
-    vlo: &mut [f64],
-    vhi: &mut [f64],
+    boxes: &mut [f64],
 ) -> usize
-    ensures { λ r. ⌜ r ≡ closedRegion (now (starts .entry)) (now (counts .entry)) (now (u .entry)) (now (v .entry)) (now (areas .entry)) (now (ulo .entry)) (now (uhi .entry)) (now (vlo .entry)) (now (vhi .entry)) ⌝ }
-    ensures { λ _. ⌜ now (ulo .exit) ≡ endsInto false (now (starts .entry)) (now (counts .entry)) (now (u .entry)) (now (ulo .entry)) ⌝ }
-    ensures { λ _. ⌜ now (uhi .exit) ≡ endsInto true (now (starts .entry)) (now (counts .entry)) (now (u .entry)) (now (uhi .entry)) ⌝ }
-    ensures { λ _. ⌜ now (vlo .exit) ≡ endsInto false (now (starts .entry)) (now (counts .entry)) (now (v .entry)) (now (vlo .entry)) ⌝ }
-    ensures { λ _. ⌜ now (vhi .exit) ≡ endsInto true (now (starts .entry)) (now (counts .entry)) (now (v .entry)) (now (vhi .entry)) ⌝ }
+    ensures { λ r. ⌜ r ≡ outerAmong (pieces (now (counts .entry)) (rows (now (t .entry)))) (now (areas .entry)) (length (boxesIn (now (boxes .entry)))) ⌝ }
+    ensures { λ _. ⌜ boxesIn (now (boxes .exit)) ≡ placed 0 (map boxIn (pieces (now (counts .entry)) (rows (now (t .entry))))) (boxesIn (now (boxes .entry))) ⌝ }
 {
-    regions::closed::closed_region(u, v, starts, counts, areas, ulo, uhi, vlo, vhi)
+    regions::region::closed_region(t, counts, areas, boxes)
 }
 
 #[no_mangle]
-pub extern "C" fn compared_outer_loop(
-    ulo: &[f64],
-    uhi: &[f64],
-    vlo: &[f64],
-    vhi: &[f64],
-    areas: &[f64],
-) -> usize
-    ensures { λ r. ⌜ r ≡ outerOf (boxesFrom (now (ulo .entry)) (now (uhi .entry)) (now (vlo .entry)) (now (vhi .entry))) (now (areas .entry)) ⌝ }
+pub extern "C" fn compared_outer_loop(boxes: &[f64], areas: &[f64]) -> usize
+    ensures { λ r. ⌜ r ≡ outerOf (boxesIn (now (boxes .entry))) (now (areas .entry)) ⌝ }
 {
-    regions::outer::outer_loop(ulo, uhi, vlo, vhi, areas)
+    regions::enclosing::outer_loop(boxes, areas)
 }
 
 #[no_mangle]
 pub extern "C" fn compared_rephase_holes(
-    u: &mut [f64],
-    v: &mut [f64],
-    areas: &mut [f64],
-    starts: &[usize],
+    t: &mut [f64],
     counts: &[usize],
+    areas: &mut [f64],
     outer: usize,
     uperiod: f64,
     vperiod: f64,
 )
-    ensures { λ _. ⌜ now (u .exit) ≡ rephaseHoles (now (starts .entry)) (now (counts .entry)) outer uperiod vperiod (arrays (now (u .entry)) (now (v .entry)) (now (areas .entry))) .us ⌝ }
-    ensures { λ _. ⌜ now (v .exit) ≡ rephaseHoles (now (starts .entry)) (now (counts .entry)) outer uperiod vperiod (arrays (now (u .entry)) (now (v .entry)) (now (areas .entry))) .vs ⌝ }
-    ensures { λ _. ⌜ now (areas .exit) ≡ rephaseHoles (now (starts .entry)) (now (counts .entry)) outer uperiod vperiod (arrays (now (u .entry)) (now (v .entry)) (now (areas .entry))) .areas ⌝ }
+    ensures { λ _. ⌜ rows (now (t .exit)) ≡ rephasedRows outer (periodLength (periodOf uperiod)) (periodLength (periodOf vperiod)) (pieces (now (counts .entry)) (rows (now (t .entry)))) (now (areas .entry)) (rows (now (t .entry))) ⌝ }
+    ensures { λ _. ⌜ now (areas .exit) ≡ rephasedAreas outer (periodLength (periodOf uperiod)) (periodLength (periodOf vperiod)) (pieces (now (counts .entry)) (rows (now (t .entry)))) (now (areas .entry)) ⌝ }
 {
-    regions::rephase::rephase_holes(u, v, areas, starts, counts, outer, uperiod, vperiod);
+    let u = period_of(uperiod);
+    let v = period_of(vperiod);
+    regions::holes::rephase_holes(t, counts, areas, outer, u, v);
 }

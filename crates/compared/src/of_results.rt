@@ -1,9 +1,10 @@
 // The size of a result record, and the record written.
 ghost use mathlib.Core.Path.{_≡_};
 ghost use lib.ListN.{length};
-ghost use Rattle.records.specs.Lent.{filledIf, least5};
+ghost use Rattle.records.specs.Lent.{filledIf};
 ghost use Rattle.records.specs.Result.{encode};
-ghost use Rattle.results.specs.Written.{pathOf, lentResult, lengthOf, sizeOf, writtenIf, resultFits};
+ghost use Rattle.results.specs.Written.{pathOf, tableResult, lengthOf, sizeOf, writtenIf, resultFits};
+ghost use Rattle.tables.specs.Rows.{rows};
 ghost use Rattle.compared.specs.Records.{writtenOf, pathFrom, roomOf};
 use super::of_records::Counted;
 use results::Path;
@@ -66,15 +67,11 @@ pub extern "C" fn compared_write_result(
     path: u32,
     counts: &[usize],
     areas: &[f64],
-    u: &[f64],
-    v: &[f64],
-    x: &[f64],
-    y: &[f64],
-    z: &[f64],
+    t: &[f64],
     out: &mut [u8],
 ) -> Counted
-    ensures { λ r. ⌜ r ≡ writtenOf (writtenIf (resultFits (now (counts .entry)) (length (now (areas .entry))) (least5 (length (now (u .entry))) (length (now (v .entry))) (length (now (x .entry))) (length (now (y .entry))) (length (now (z .entry)))) (length (now (out .entry)))) (lengthOf (now (counts .entry)))) ⌝ }
-    ensures { λ _. ⌜ now (out .exit) ≡ filledIf (resultFits (now (counts .entry)) (length (now (areas .entry))) (least5 (length (now (u .entry))) (length (now (v .entry))) (length (now (x .entry))) (length (now (y .entry))) (length (now (z .entry)))) (length (now (out .entry)))) (encode (lentResult (pathOf (pathFrom path)) (now (counts .entry)) (now (areas .entry)) (now (u .entry)) (now (v .entry)) (now (x .entry)) (now (y .entry)) (now (z .entry)))) (now (out .entry)) ⌝ }
+    ensures { λ r. ⌜ r ≡ writtenOf (writtenIf (resultFits (now (counts .entry)) (length (now (areas .entry))) (length (rows (now (t .entry)))) (length (now (out .entry)))) (lengthOf (now (counts .entry)))) ⌝ }
+    ensures { λ _. ⌜ now (out .exit) ≡ filledIf (resultFits (now (counts .entry)) (length (now (areas .entry))) (length (rows (now (t .entry)))) (length (now (out .entry)))) (encode (tableResult (pathOf (pathFrom path)) (now (counts .entry)) (now (areas .entry)) (rows (now (t .entry))))) (now (out .entry)) ⌝ }
 {
-    written_of(results::write_result(path_from(path), counts, areas, u, v, x, y, z, out))
+    written_of(results::write_result(path_from(path), counts, areas, t, out))
 }

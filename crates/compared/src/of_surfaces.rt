@@ -8,7 +8,7 @@ ghost use Rattle.surfaces.specs.Points as Points;
 ghost use Rattle.surfaces.specs.Rungs.{keptDivisions, rungs, EndsOn, EndWritten, inner};
 ghost use Rattle.surfaces.specs.Steps.{vStepsOf, directionStepsOf};
 ghost use Rattle.compared.specs.Points.{pointOf, frameOf};
-ghost use Rattle.compared.specs.Surfaces.{surfaceOf, axisOf, resolvedOf, lengthOf, limitsOf};
+ghost use Rattle.compared.specs.Surfaces.{surfaceOf, axisOf, resolvedOf, lengthOf, periodOf, limitsOf};
 use super::of_numbers::Placement;
 use super::of_numbers::Point;
 use super::of_numbers::frame_of;
@@ -62,6 +62,15 @@ fn length_of(period: Period) -> f64
         Period::Every(p) => p,
         Period::None => 0.0,
     }
+}
+
+pub fn period_of(length: f64) -> Period
+    ensures { λ r. ⌜ r ≡ periodOf length ⌝ }
+{
+    if length == 0.0 {
+        return Period::None;
+    }
+    Period::Every(length)
 }
 
 fn limits_of(d: Domain) -> Limits

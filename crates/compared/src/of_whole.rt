@@ -1,9 +1,10 @@
 // The whole path: how many corners the boundary of a whole surface has, and the boundary.
 ghost use mathlib.Core.Path.{_≡_};
-ghost use mathlib.Core.Bool.{cond};
 ghost use lib.ListN.{length};
-ghost use Rattle.numbers.specs.Constants.{plusZero};
-ghost use Rattle.whole.specs.Boundary.{CountEnds, usOf, vsOf, wholeCorners, xsOf, ysOf, zsOf, wholePositions, wholeArea, wholeRoom, lentTo, ReachesCorners};
+ghost use Rattle.lists.specs.Placed.{placed};
+ghost use Rattle.tables.specs.Rows.{rows};
+ghost use Rattle.whole.specs.Boundary.{CountEnds, wholeCorners, wholeArea};
+ghost use Rattle.whole.specs.Table.{wholeRows, RowsReach};
 ghost use Rattle.compared.specs.Points.{frameOf};
 ghost use Rattle.compared.specs.Surfaces.{surfaceOf, resolvedOf};
 use super::of_numbers::Placement;
@@ -40,19 +41,11 @@ pub extern "C" fn compared_full_domain_loop(
     sag: f64,
     angle: f64,
     segments: usize,
-    u: &mut [f64],
-    v: &mut [f64],
-    x: &mut [f64],
-    y: &mut [f64],
-    z: &mut [f64],
+    t: &mut [f64],
 ) -> f64
-    ensures { λ _. ⌜ ReachesCorners (surfaceOf kind a b) (resolvedOf sag angle segments) (wholeRoom (surfaceOf kind a b) (resolvedOf sag angle segments) (now (u .entry)) (now (v .entry)) (now (x .entry)) (now (y .entry)) (now (z .entry))) (now (u .exit)) (now (v .exit)) ⌝ }
-    ensures { λ r. ⌜ r ≡ cond (wholeRoom (surfaceOf kind a b) (resolvedOf sag angle segments) (now (u .entry)) (now (v .entry)) (now (x .entry)) (now (y .entry)) (now (z .entry))) (wholeArea (surfaceOf kind a b) (resolvedOf sag angle segments)) plusZero ⌝ }
-    ensures { λ _. ⌜ now (u .exit) ≡ lentTo (wholeRoom (surfaceOf kind a b) (resolvedOf sag angle segments) (now (u .entry)) (now (v .entry)) (now (x .entry)) (now (y .entry)) (now (z .entry))) (usOf (wholeCorners (surfaceOf kind a b) (resolvedOf sag angle segments))) (now (u .entry)) ⌝ }
-    ensures { λ _. ⌜ now (v .exit) ≡ lentTo (wholeRoom (surfaceOf kind a b) (resolvedOf sag angle segments) (now (u .entry)) (now (v .entry)) (now (x .entry)) (now (y .entry)) (now (z .entry))) (vsOf (wholeCorners (surfaceOf kind a b) (resolvedOf sag angle segments))) (now (v .entry)) ⌝ }
-    ensures { λ _. ⌜ now (x .exit) ≡ lentTo (wholeRoom (surfaceOf kind a b) (resolvedOf sag angle segments) (now (u .entry)) (now (v .entry)) (now (x .entry)) (now (y .entry)) (now (z .entry))) (xsOf (wholePositions (surfaceOf kind a b) (frameOf frame) (resolvedOf sag angle segments))) (now (x .entry)) ⌝ }
-    ensures { λ _. ⌜ now (y .exit) ≡ lentTo (wholeRoom (surfaceOf kind a b) (resolvedOf sag angle segments) (now (u .entry)) (now (v .entry)) (now (x .entry)) (now (y .entry)) (now (z .entry))) (ysOf (wholePositions (surfaceOf kind a b) (frameOf frame) (resolvedOf sag angle segments))) (now (y .entry)) ⌝ }
-    ensures { λ _. ⌜ now (z .exit) ≡ lentTo (wholeRoom (surfaceOf kind a b) (resolvedOf sag angle segments) (now (u .entry)) (now (v .entry)) (now (x .entry)) (now (y .entry)) (now (z .entry))) (zsOf (wholePositions (surfaceOf kind a b) (frameOf frame) (resolvedOf sag angle segments))) (now (z .entry)) ⌝ }
+    ensures { λ r. ⌜ r ≡ wholeArea (surfaceOf kind a b) (resolvedOf sag angle segments) ⌝ }
+    ensures { λ _. ⌜ rows (now (t .exit)) ≡ placed 0 (wholeRows (surfaceOf kind a b) (frameOf frame) (resolvedOf sag angle segments)) (rows (now (t .entry))) ⌝ }
+    ensures { λ _. ⌜ RowsReach (surfaceOf kind a b) (resolvedOf sag angle segments) (length (rows (now (t .entry)))) (rows (now (t .exit))) ⌝ }
 {
     let surface = surface_of(kind, a, b);
     let options = Resolved {
@@ -60,5 +53,5 @@ pub extern "C" fn compared_full_domain_loop(
         angle,
         min_edge_segments: segments,
     };
-    whole::boundary::full_domain_loop(surface, frame_of(frame), options, u, v, x, y, z)
+    whole::table::full_domain_loop(surface, frame_of(frame), options, t)
 }

@@ -15,34 +15,13 @@ full-domain-loop-requires c κs = search needs
 same-length : tie.Need-same-length
 same-length c = search needs
 
-same-length-2 : tie.Need-same-length-2
-same-length-2 c = search needs
-
-same-length-3 : tie.Need-same-length-3
-same-length-3 c = search needs
-
-same-length-4 : tie.Need-same-length-4
-same-length-4 c = search needs
-
-same-length-5 : tie.Need-same-length-5
-same-length-5 c = search needs
-
 returns : tie.Need-returns
 returns c =
-    let called = c .before .before .before .before .before .before .before .before .before .before in
-    let framed = called .before .before .before .before .before .before in
+    let called = c .before .before in
+    let framed = called .before .before in
     rw (sym (framed .before .surface-of .ensures), sym (framed .frame-of .ensures)) (called .full-domain-loop .ensures)
 
 pub compared-full-domain-loop-spec : {M : Type 1} → statement M
 compared-full-domain-loop-spec =
     tie.close
-    (tie.spec
-    surface-of-requires
-    frame-of-requires
-    full-domain-loop-requires
-    same-length
-    same-length-2
-    same-length-3
-    same-length-4
-    same-length-5
-    returns)
+    (tie.spec surface-of-requires frame-of-requires full-domain-loop-requires same-length returns)
