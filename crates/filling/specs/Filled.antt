@@ -39,7 +39,8 @@ abbrev pub filledBy : Verdict → List ℕ → Filled
 filledBy passes s = Face (pathTaken s) (length (resultLoops s))
 filledBy (refuses number place) s = Refused number place
 
--- v is what the conditions say of the record s. Of a face that is refused nothing is said of what was lent.
+-- v is what the conditions say of the record s. Nothing is said of what stands behind the result, nor, where the face is refused, of what
+-- was lent.
 pub record FillsTo (v : Verdict) (s : List ℕ) (r : Filled) (counts : List ℕ) (areas t : List Float) : Type 0 where
   pub answer : r ≡ filledBy v s
   pub holds : v ≡ passes → HoldsResult (resultLoops s) (take (length (resultLoops s)) counts) areas t

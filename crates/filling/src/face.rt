@@ -46,8 +46,8 @@ pub enum Filled {
     Refused { number: u8, place: usize },
 }
 
-// The path: whole where there are no loops, closed where none wraps. Only the other two paths need
-// the frame, which takes roots.
+// The path: whole where there are no loops, closed where none wraps, else wrapped. The closed one does
+// not need the frame, which takes roots.
 fn fill_path(
     sense: u8,
     segments: u8,
@@ -96,7 +96,8 @@ fn fill_path(
     )
 }
 
-// A face as it is read: its loops are measured, the refusals 8 to 11 tested, and its path taken.
+// A face as it is read: its loops are measured, the refusals 8 to 11 tested, and its path taken,
+// which may refuse by 12.
 fn fill_read(
     kind: u8,
     sense: u8,
@@ -173,7 +174,8 @@ fn fill_record(
 }
 
 // The face of a record closed into lent tables: the corners of its result in the front of t, outer
-// loop first, a count and an area of each loop in the front of the others; or refused.
+// loop first, a count and an area of each loop in the front of the others; or refused. What stands
+// behind the result is free.
 pub fn fill_face(
     face: &[u8],
     t: &mut [f64; 7680],

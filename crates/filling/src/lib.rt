@@ -200,7 +200,7 @@ fn band_between(
     )
 }
 
-// The loop that a record tells of into the front of dst, and how many reals it has there.
+// The loop that a record tells of into the front of dst, and five times its count, at most 2,560.
 fn take_ring(dst: &mut [f64], corners: &[f64], one: LoopRecord) -> usize
     ensures { λ r. ⌜ r ≡ 5 * min (one .count) maxPoints ⌝ }
     ensures { λ r. ⌜ rows (now (dst .exit)) ≡ placed 0 (take (one .count) (drop (one .start) (rows (now (corners .entry))))) (rows (now (dst .entry))) ⌝ }

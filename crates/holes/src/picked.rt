@@ -1,5 +1,5 @@
 // One value of each loop, its count or its area: those of the holes, which are all loops but those of
-// number a and b. What does not fit is not written.
+// number a and b. Where they do not all fit, nothing is written.
 ghost use mathlib.Core.Path.{_≡_};
 ghost use mathlib.Core.List.{List};
 ghost use Prim.Native.Nat.{ℕ, _+_};

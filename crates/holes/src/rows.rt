@@ -1,5 +1,5 @@
 // The holes of a face whose loops stand one behind the other in a corner table: all loops but those of
-// number a and b. What does not fit is not written.
+// number a and b. Where they do not all fit, nothing is written.
 ghost use mathlib.Core.Path.{_≡_};
 ghost use mathlib.Core.Bool.{cond};
 ghost use mathlib.Core.List.{[], flatten};

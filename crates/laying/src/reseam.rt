@@ -124,8 +124,9 @@ fn reseam_with_room(
     }
 }
 
-// Every hole brought onto the strip, and the rings cut anew where a hole lies across the seam. low and
-// high are lent for the holes' ends: where they are shorter than the counts nothing is done.
+// Where the rings make a strip, every hole brought onto it, and the rings cut anew where a hole lies
+// across the seam and leaves a gap. low and high are scratch for the holes' ends: where they are
+// shorter than the counts nothing is done.
 pub fn reseam(
     first: &mut [f64],
     later: &mut [f64],

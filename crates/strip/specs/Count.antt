@@ -1,4 +1,4 @@
--- How many corners the strip between two rings has.
+-- How many corners the strip between two rings that have corners has.
 use Prim.Native.Nat.{ℕ, _+_, _-_, _*_, _^_, min}
 
 -- with the two where the first wall begins and ends, and `inner` in each wall

@@ -1,4 +1,5 @@
-// The strip between two rings in the order of their mean v.
+// The strip between two rings, the lower one first: by their mean v, and on a torus by their travel
+// too, with the upper one lifted where the strip crosses v's seam.
 ghost use mathlib.Core.Path.{_≡_};
 ghost use mathlib.Core.Bool.{Bool, cond};
 ghost use mathlib.Core.List.{map};
