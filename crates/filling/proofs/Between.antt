@@ -18,7 +18,7 @@ use Rattle.bands.specs.Strip.{Setting}
 use Rattle.bands.specs.Band.{goesWith, joined, holes}
 use Rattle.strip.specs.Closing.{closingOf, closedInto, roomFor}
 use Rattle.strip.specs.declared.closing.Closing.{Closing}
-use Rattle.ordering.specs.Ordered.{lowerOf, upperOf}
+use Rattle.wrapped_region.specs.Ordered.{lowerOf, upperOf}
 use Rattle.laying.specs.Held.{faceIn, ringsIn, hasRoom, reseamWithin, startedWithin}
 use Rattle.laying.specs.Held.{givenIn as heldIn}
 use Rattle.wrapped_region.specs.Rings.{ringsOf}

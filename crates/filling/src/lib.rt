@@ -41,7 +41,6 @@ use loop_records::loop_at;
 use measuring::refusals::first_wrapping;
 use measuring::refusals::last_wrapping;
 use numbers::math::Frame;
-use ordering::goes_with;
 use records::check::Place;
 use results::Path;
 use slices::put;
@@ -54,6 +53,7 @@ use tables::copies::copy_rows;
 use tables::pieces::part_of;
 use whole::boundary::full_domain_count;
 use whole::table::full_domain_loop;
+use wrapped_region::order::goes_with;
 use wrapped_region::ordered::close_ordered;
 
 pub mod face;

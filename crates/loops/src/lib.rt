@@ -4,6 +4,5 @@ pub mod area;
 pub mod branch;
 pub mod part;
 pub mod rows;
-pub mod span;
 pub mod stretch;
 pub mod wrap;

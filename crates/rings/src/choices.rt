@@ -1,27 +1,8 @@
-// What a band decides by the u of its loops alone.
+// What the search for a start decides by the u of a ring, which stand in a slice of their own.
 ghost use mathlib.Core.Path.{_≡_};
-ghost use Rattle.loops.specs.Branch.{LeavesTurn};
-ghost use Rattle.loops.specs.Span.{leastOf};
-ghost use Rattle.rings.specs.Choices.{leastU, greatestU, firstOf, beginsBackward, stripShift, straddles, firstPast, firstOpenPast, offset, nearest, onSeam, stepStands, standsAtTheCut, serve};
-use loops::span::greatest;
-use loops::span::least;
+ghost use Rattle.rings.specs.Choices.{firstOf, beginsBackward, offset, nearest, onSeam, stepStands, standsAtTheCut, serve};
 use numbers::order::abs;
-use numbers::order::max;
-use numbers::order::min;
-use numbers::rounding::floor;
 use numbers::rounding::round;
-
-pub fn least_u(first: &[f64], later: &[f64]) -> f64
-    ensures { λ r. ⌜ r ≡ leastU (now (first .entry)) (now (later .entry)) ⌝ }
-{
-    min(least(first), least(later))
-}
-
-pub fn greatest_u(first: &[f64], later: &[f64]) -> f64
-    ensures { λ r. ⌜ r ≡ greatestU (now (first .entry)) (now (later .entry)) ⌝ }
-{
-    max(greatest(first), greatest(later))
-}
 
 // Of no points a NaN.
 pub fn first_of(u: &[f64]) -> f64
@@ -40,48 +21,6 @@ pub fn begins_backward(u: &[f64]) -> bool
         return false;
     }
     u[1] < u[0]
-}
-
-// The whole periods by which a hole lies past the strip's begin.
-pub fn strip_shift(u: &[f64], lo: f64, period: f64) -> f64
-    ensures { λ r. ⌜ r ≡ stripShift period lo (now (u .entry)) ⌝ }
-    ensures { λ r. ⌜ LeavesTurn (leastOf (now (u .entry))) lo period r ⌝ }
-{
-    floor((least(u) - lo) / period) * period
-}
-
-pub fn straddles(u: &[f64], lo: f64, period: f64) -> bool
-    ensures { λ r. ⌜ r ≡ straddles period lo (now (u .entry)) ⌝ }
-{
-    if greatest(u) > lo + period + 1e-12 {
-        return true;
-    }
-    least(u) < lo - 1e-12
-}
-
-// The first point at or past the cut, and 0 where there is none.
-fn first_past(u: &[f64], cut: f64) -> usize
-    ensures { λ r. ⌜ r ≡ firstPast cut (now (u .entry)) ⌝ }
-{
-    let mut i = 0;
-    while i < u.len() {
-        if u[i] >= cut {
-            return i;
-        }
-        i += 1;
-    }
-    0
-}
-
-// Of the open points: the last one, which repeats the first, is set aside.
-pub fn first_open_past(u: &[f64], cut: f64) -> usize
-    ensures { λ r. ⌜ r ≡ firstOpenPast cut (now (u .entry)) ⌝ }
-{
-    if u.len() == 0 {
-        return 0;
-    }
-    let points = u.len() - 1;
-    first_past(&u[0..points], cut)
 }
 
 // How far u lies from the cut in periods, whole ones left out.

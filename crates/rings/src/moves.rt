@@ -8,7 +8,7 @@ ghost use Rattle.lists.specs.Parts.{onPart, swapped};
 ghost use Rattle.loops.specs.Rings.{begun};
 ghost use Rattle.tables.specs.Moves.{movedBy};
 ghost use Rattle.tables.specs.Moves.{unlessZero};
-ghost use Rattle.rings.specs.Turns.{turnedUnless, beginRingAt, recutAt, turnedOnto, alignAt};
+ghost use Rattle.rings.specs.Turns.{beginRingAt, turnedOnto, alignAt};
 ghost use mathlib.Core.List as List;
 use tables::moves::Move;
 use tables::moves::moved;
@@ -102,32 +102,17 @@ fn turn(s: &mut [f64], k: usize, again: Move, put: Move)
     s[points] = moved(s[0], again);
 }
 
-// A ring that is to begin where it does stays, and so does one of fewer than `few` points.
-fn turn_unless(s: &mut [f64], few: usize, k: usize, again: Move)
-    requires { ⌜ 2 ≤ few ⌝ }
-    ensures { λ _. ⌜ now (s .exit) ≡ turnedUnless few (movedBy again) k (now (s .entry)) ⌝ }
+// A ring that is to begin where it does stays, and so does one of fewer than three open points.
+pub fn begin_ring_at(s: &mut [f64], k: usize, again: Move)
+    ensures { λ _. ⌜ now (s .exit) ≡ beginRingAt (movedBy again) k (now (s .entry)) ⌝ }
 {
     if k == 0 {
         return;
     }
-    if s.len() < few {
+    if s.len() < 4 {
         return;
     }
     turn(s, k, again, Move::Stay);
-}
-
-// A ring of fewer than three open points stays.
-pub fn begin_ring_at(s: &mut [f64], k: usize, again: Move)
-    ensures { λ _. ⌜ now (s .exit) ≡ beginRingAt (movedBy again) k (now (s .entry)) ⌝ }
-{
-    turn_unless(s, 4, k, again);
-}
-
-// A ring cut anew at its open point k, however few its points.
-pub fn recut_at(s: &mut [f64], k: usize, again: Move)
-    ensures { λ _. ⌜ now (s .exit) ≡ recutAt (movedBy again) k (now (s .entry)) ⌝ }
-{
-    turn_unless(s, 2, k, again);
 }
 
 pub fn align_at(s: &mut [f64], k: usize, again: Move, put: Move)

@@ -18,7 +18,7 @@ use Rattle.strip.specs.Count.{capped}
 use Rattle.strip.specs.declared.closing.Closing.{Closing}
 use Rattle.strip.specs.declared.closing.Closing.the-variants.{Closed, TooMany}
 use Rattle.strip.proofs.closing.Laws.{band-closed}
-use Rattle.ordering.specs.Ordered.{firstLower, lowerOf, upperOf}
+use Rattle.wrapped_region.specs.Ordered.{firstLower, lowerOf, upperOf}
 
 -- the face's holes have no part in it
 module _ (S : Setting Vec3) (given : Given Vec3) (face : Face Vec3) (first-is : face .first ≡ joined S given .first) (later-is : face .later ≡ joined S given .later) where

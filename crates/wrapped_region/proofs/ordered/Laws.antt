@@ -21,7 +21,7 @@ use Rattle.bands.specs.Strip.{Setting}
 use Rattle.bands.specs.Band.{firstIsLower, lift, meanV, pick}
 use Rattle.strip.specs.Closing.{closingOf, closedInto}
 use Rattle.strip.specs.declared.closing.Closing.{Closing}
-use Rattle.ordering.specs.Ordered.{crosses, liftedBy, firstLower, lowerOf, upperOf}
+use Rattle.wrapped_region.specs.Ordered.{crosses, liftedBy, firstLower, lowerOf, upperOf}
 
 -- ---- the upper ring lifted
 

@@ -1,12 +1,9 @@
-// Which of two rings of a band is the lower one, and the upper one lifted across v's seam.
+// Which of two rings of a band is the lower one, and whether the band crosses v's seam.
 ghost use mathlib.Core.Path.{_≡_};
 ghost use mathlib.Core.Bool.{cond, not};
-ghost use mathlib.Core.List.{map};
 ghost use Rattle.bands.specs.Band.{firstIsLower};
-ghost use Rattle.ordering.specs.Ordered.{crosses, liftedBy};
-use rings::moves::move_all;
+ghost use Rattle.wrapped_region.specs.Ordered.{crosses};
 use surfaces::surface::Period;
-use tables::moves::Move;
 
 // Whether a ring goes with the face: u rising, or falling where the face's sense is not the surface's.
 pub fn goes_with(sense: bool, falls: bool) -> bool
@@ -53,16 +50,3 @@ pub fn crosses(with_lower: bool, with_upper: bool, lower: f64, upper: f64) -> bo
     false
 }
 
-// The upper ring's v, one period up where the band crosses v's seam.
-pub fn lift(v: &mut [f64], period: Period, crosses: bool)
-    ensures { λ _. ⌜ now (v .exit) ≡ map (liftedBy period crosses) (now (v .entry)) ⌝ }
-{
-    match period {
-        Period::None => {}
-        Period::Every(p) => {
-            if crosses {
-                move_all(v, Move::Up(p));
-            }
-        }
-    }
-}

@@ -1,6 +1,6 @@
-use Rattle.ordering.proofs.Laws.{both-go, only-lower, not-lower}
-use Rattle.ordering.proofs.crosses.Statement.{statement}
-use Rattle.ordering.proofs.crosses.Tie as tie
+use Rattle.wrapped_region.proofs.order.Laws.{both-go, only-lower, not-lower}
+use Rattle.wrapped_region.proofs.order.crosses.Statement.{statement}
+use Rattle.wrapped_region.proofs.order.crosses.Tie as tie
 
 returns : tie.Need-returns
 returns c = search both-go

@@ -1,7 +1,7 @@
-use Rattle.ordering.proofs.Laws.{open-order, below-with, below-alone, above-with, above-alone}
+use Rattle.wrapped_region.proofs.order.Laws.{open-order, below-with, below-alone, above-with, above-alone}
 use borrow.Author.Needs.{needs}
-use Rattle.ordering.proofs.first_is_lower.Statement.{statement}
-use Rattle.ordering.proofs.first_is_lower.Tie as tie
+use Rattle.wrapped_region.proofs.order.first_is_lower.Statement.{statement}
+use Rattle.wrapped_region.proofs.order.first_is_lower.Tie as tie
 
 enum-told : tie.Need-enum-told
 enum-told c = search needs

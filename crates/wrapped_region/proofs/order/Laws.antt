@@ -1,16 +1,11 @@
--- The order of two rings, and the lift of the upper one, case by case.
+-- The order of two rings, and whether their band crosses v's seam, case by case.
 use mathlib.Core.Path.{_≡_, refl, sym, ap, _∙_}
 use mathlib.Core.Bool.{Bool, true, false, cond, not, _&&_, _||_}
-use mathlib.Core.List.{List, map}
 use lib.Ieee.{Float, lt}
-use Rattle.numbers.specs.Rounded.{_⊕_}
 use Rattle.surfaces.specs.declared.surface.Period.{Period}
 use Rattle.surfaces.specs.declared.surface.Period.the-variants.{Every, None}
-use Rattle.tables.specs.Moves.{movedBy}
-use Rattle.tables.specs.declared.moves.Move.the-variants.{Up}
-use Rattle.rings.proofs.Carried.{map-unchanged}
 use Rattle.bands.specs.Band.{firstIsLower}
-use Rattle.ordering.specs.Ordered.{crosses, liftedBy}
+use Rattle.wrapped_region.specs.Ordered.{crosses}
 
 module _ (period : Period) (a b : Bool) (mean₁ mean₂ : Float) where
   pub open-order : period ≡ None → not (lt mean₂ mean₁) ≡ firstIsLower period a b mean₁ mean₂
@@ -48,20 +43,3 @@ module _ (a b : Bool) (low up : Float) where
   pub not-lower : a ≡ false → false ≡ crosses a b low up
   unfolding crosses
   not-lower ha = λ i. sym ha i && (not b && lt up low)
-
--- ---- the lift
-
-pub stays-open : (period : Period) (t : Bool) (vs : List Float) → period ≡ None → vs ≡ map (liftedBy period t) vs
-unfolding liftedBy
-stays-open period t vs e = sym ((λ i. map (liftedBy (e i) t) vs) ∙ map-unchanged vs)
-
-module _ (period : Period) (t : Bool) (p : Float) (e : period ≡ Every p) where
-  by-period : (b : Bool) → t ≡ b → (vs : List Float) → map (λ v. cond b (v ⊕ p) v) vs ≡ map (liftedBy period t) vs
-  unfolding liftedBy
-  by-period b h vs = sym (λ i. map (liftedBy (e i) (h i)) vs)
-
-  pub lifts : t ≡ true → (vs ws : List Float) → ws ≡ map (movedBy (Up p)) vs → ws ≡ map (liftedBy period t) vs
-  lifts h vs ws d = d ∙ by-period true h vs
-
-  pub stays-low : t ≡ false → (vs : List Float) → vs ≡ map (liftedBy period t) vs
-  stays-low h vs = sym (map-unchanged vs) ∙ by-period false h vs
