@@ -23,10 +23,10 @@ use Rattle.loops.proofs.Projections.{map-dropRepeats}
 use Rattle.tables.specs.Corners.{Corner, Corners, us, positions, moveU, moveV}
 use Rattle.rings.specs.Choices.{firstOf, firstOpenPast, nearest}
 use Rattle.rings.specs.Turns.{turnedUnless, beginRingAt, recutAt, turnedOnto, alignAt}
-use Rattle.rings.specs.Starts.{start}
+use Rattle.rings.specs.Starts.{start, raised, alignCuts, slideToCut}
 use Rattle.rings.proofs.Carried.{map-unchanged, unless-unchanged, map-cond, map-unlessZero, map-beginRingAt, map-recutAt, map-alignAt}
 use Rattle.bands.specs.Given.{Loop, Given}
-use Rattle.bands.specs.Rings.{Face, rising, shifted, laid, raised, seam, onto, onStrip, acrossSeam, gapOf, recut, cutAnew, hasStrip, hasGap, reseam, alignCuts, slideToCut, trial, started}
+use Rattle.bands.specs.Rings.{Face, rising, shifted, laid, seam, onto, onStrip, acrossSeam, gapOf, recut, cutAnew, hasStrip, hasGap, reseam, trial, started}
 use Rattle.bands.specs.Strip.{Setting, heights, wall, strip}
 use Rattle.bands.specs.Band.{pick, pickLoop, joined, lowerFirst, lower, upper, lowerRing, upperRing, stripOf, outer, holes}
 use Rattle.bands.specs.Demand.{ring, Turn, Whole, Demand3}
@@ -219,7 +219,7 @@ module _ {A : Type 0} (S : Setting A) where
         let f = laid (S .period) given in
         let g = reseam (S .period) f in
         let cut = subst (λ (xs : List A). Turn xs (positions (g .first))) (laid-first (S .period) given) (reseam-turn (S .period) (λ (x : Face A). x .first) f refl refl) in
-        turn-on _ _ _ cut (begun-turn (S .period) (start (S .period) (us (g .first)) (us (g .later))) (g .first))
+        turn-on _ _ _ cut (begun-turn (S .period) (start (S .period) (g .first) (g .later)) (g .first))
 
     later-turn : Turn (ring (given .later)) (positions (joined S given .later))
     unfolding joined started trial onStrip cutAnew
@@ -227,7 +227,7 @@ module _ {A : Type 0} (S : Setting A) where
         let f = laid (S .period) given in
         let g = reseam (S .period) f in
         let cut = subst (λ (xs : List A). Turn xs (positions (g .later))) (laid-later (S .period) given) (reseam-turn (S .period) (λ (x : Face A). x .later) f refl refl) in
-        turn-on _ _ _ cut (aligned-turn (S .period) (firstOf (us (beginRingAt (raised (S .period)) (start (S .period) (us (g .first)) (us (g .later))) (g .first)))) (g .later))
+        turn-on _ _ _ cut (aligned-turn (S .period) (firstOf (us (beginRingAt (raised (S .period)) (start (S .period) (g .first) (g .later)) (g .first)))) (g .later))
 
     pick-turn : (t : Bool) → Turn (ring (pickLoop t given)) (positions (pick t (joined S given)))
     pick-turn true = first-turn

@@ -9,11 +9,11 @@ use Rattle.numbers.specs.Rounded.{_⊕_, _⊖_}
 use Rattle.loops.specs.Branch.{branchShift}
 use Rattle.rings.specs.Choices.{firstOf, firstOpenPast, nearest}
 use Rattle.rings.specs.Turns.{beginRingAt}
-use Rattle.rings.specs.Starts.{start}
+use Rattle.rings.specs.Starts.{start, raised, lessU, alignCuts, slideToCut}
 use Rattle.rings.proofs.Lengths.{length-if, length-beginRingAt, length-recutAt, length-alignAt, length-unlessZero}
 use Rattle.tables.specs.Corners.{Corners, us, moveU}
 use Rattle.bands.specs.Given.{Loop, Given}
-use Rattle.bands.specs.Rings.{Face, rising, raised, lessU, shifted, laid, recut, onStrip, cutAnew, hasStrip, acrossSeam, hasGap, reseam, alignCuts, slideToCut, trial, started}
+use Rattle.bands.specs.Rings.{Face, rising, shifted, laid, recut, onStrip, cutAnew, hasStrip, acrossSeam, hasGap, reseam, trial, started}
 use Rattle.bands.proofs.Recut.{recut-is}
 
 -- a column of some lists has as many elements in each as the list has
@@ -51,7 +51,7 @@ module _ (period : Float) {A : Type 0} where
 
   length-alignCuts : (cut : Float) (r : Corners A) → length (alignCuts period cut r) ≡ length r
   unfolding alignCuts
-  length-alignCuts cut r = let k = nearest period cut (us r) in length-alignAt (raised period) (lessU period (branchShift (getD (us r) k nan) cut period)) k r
+  length-alignCuts cut r = let k = nearest period cut (us r) in length-alignAt (raised period) (lessU (branchShift (getD (us r) k nan) cut period)) k r
 
   length-slideToCut : (cut : Float) (r : Corners A) → length (slideToCut period cut r) ≡ length r
   unfolding slideToCut
@@ -68,7 +68,7 @@ module _ (period : Float) {A : Type 0} where
       cut = firstOf (us (beginRingAt (raised period) k (face .first)))
 
   abbrev startOf : Face A → ℕ
-  startOf face = start period (us (face .first)) (us (face .later))
+  startOf face = start period (face .first) (face .later)
 
   -- the rings as the strip takes them are as long as the loops given
   pub length-first : (given : Given A) → length (started period (reseam period (laid period given)) .first) ≡ length (given .first .corners)

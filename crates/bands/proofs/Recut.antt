@@ -9,7 +9,8 @@ use Rattle.rings.specs.Turns.{recutAt}
 use Rattle.rings.proofs.Lengths.{past-open}
 use Rattle.rings.proofs.Turning.{recut-open}
 use Rattle.tables.specs.Corners.{Corner, Corners, us}
-use Rattle.bands.specs.Rings.{raised, recut}
+use Rattle.bands.specs.Rings.{recut}
+use Rattle.rings.specs.Starts.{raised}
 
 module _ {A : Type 0} (cut : Float) (r : Corners A) where
   pub at-open-point : firstOpenPast cut (us r) ≤ length r - 2

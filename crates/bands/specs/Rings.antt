@@ -3,17 +3,15 @@ use Prim.Native.Nat.{ℕ}
 use mathlib.Core.Bool.{Bool, false, cond, _&&_, _||_}
 use mathlib.Core.List.{List, [], _∷_, map, reverse}
 use lib.Dec.{eqb}
-use lib.Ieee.{Float, nan, lt}
+use lib.Ieee.{Float, lt}
 use lib.Ieee.Scale.{finite}
-use lib.ListN.{getD}
-use Rattle.numbers.specs.Rounded.{_⊕_, _⊖_}
+use Rattle.numbers.specs.Rounded.{_⊕_}
 use Rattle.loops.specs.Branch.{branchShift}
 use Rattle.loops.specs.Rings.{turned}
-use Rattle.tables.specs.Corners.{Corner, Corners, us, moveU}
-use Rattle.rings.specs.Choices.{leastU, greatestU, firstOf, stripShift, straddles, firstOpenPast, nearest}
+use Rattle.tables.specs.Corners.{Corner, Corners, us}
+use Rattle.rings.specs.Choices.{leastU, greatestU, firstOf, stripShift, straddles, firstOpenPast}
 use Rattle.tables.specs.Moves.{unlessZero}
-use Rattle.rings.specs.Turns.{beginRingAt, alignAt}
-use Rattle.rings.specs.Starts.{start}
+use Rattle.rings.specs.Starts.{lessU, raised, firstFor, laterFor, start}
 use Rattle.bands.specs.Given.{Loop, Given}
 use Rattle.seam.specs.declared.gap.Gap.{Gap}
 use Rattle.seam.specs.Gap.{spanOf, widestGap, usable}
@@ -30,12 +28,6 @@ module _ {A : Type 0} where
   rising l = cond (l .falls) (reverse (l .corners)) (l .corners)
 
 module _ (period : Float) {A : Type 0} where
-  abbrev pub lessU : Float → Corner A → Corner A
-  lessU step = moveU (λ u. u ⊖ step)
-
-  abbrev pub raised : Corner A → Corner A
-  raised = moveU (λ u. u ⊕ period)
-
   -- "Shift by whole periods toward the least u": also where the shift is a zero
   unfoldable pub shifted : Float → Corners A → Corners A
   shifted least r = map (lessU (branchShift (firstOf (us r)) least period)) r
@@ -71,7 +63,7 @@ module _ (period : Float) {A : Type 0} where
   -- 02, N4: "Recutting now sets the repeat aside and finds the first open point at or past the cut. It turns the open points, adds the period to those moved,
   -- and closes with the new first point's position and v, at its u plus period. If no open point reaches the cut, or the first one does, the ring stays."
   unfoldable pub recut : Float → Corners A → Corners A
-  recut cut r = let k = firstOpenPast cut (us r) in cond (eqb k 0) r (turned raised k r)
+  recut cut r = let k = firstOpenPast cut (us r) in cond (eqb k 0) r (turned (raised period) k r)
 
   unfoldable pub cutAnew : Face A → Face A
   cutAnew face =
@@ -91,22 +83,11 @@ module _ (period : Float) {A : Type 0} where
 
   -- ---- where the rings begin
 
-  -- "begins at the point nearest the cut by periods", on the branch of the cut, "and closes at first u plus period"
-  unfoldable pub alignCuts : Float → Corners A → Corners A
-  alignCuts cut r =
-      let k = nearest period cut (us r) in
-      alignAt raised (lessU (branchShift (getD (us r) k nan) cut period)) k r
-
-  -- slid along u to begin at the cut
-  unfoldable pub slideToCut : Float → Corners A → Corners A
-  slideToCut cut r = let step = cut ⊖ firstOf (us r) in unlessZero step (moveU (λ u. u ⊕ step)) r
-
   -- "starts k of the first ring": both rings, the first begun at its point k
   unfoldable pub trial : ℕ → Face A → Face A
   trial k face =
-      let first = beginRingAt raised k (face .first) in
-      let cut = firstOf (us first) in
-      record { first = first; later = slideToCut cut (alignCuts cut (face .later)); holes = face .holes }
+      let first = firstFor period k (face .first) in
+      record { first = first; later = laterFor period (firstOf (us first)) (face .later); holes = face .holes }
 
   unfoldable pub started : Face A → Face A
-  started face = trial (start period (us (face .first)) (us (face .later))) face
+  started face = trial (start period (face .first) (face .later)) face

@@ -18,9 +18,9 @@ use Rattle.tables.specs.Corners.{Corner, Corners, us, positions}
 use Rattle.rings.specs.Choices.{leastU, greatestU, firstPast, firstOpenPast, stripShift, straddles, nearest, firstLeast, firstFrom, serve, beginsBackward, standsAtTheCut}
 use Rattle.tables.specs.Moves.{unlessZero}
 use Rattle.rings.specs.Turns.{turnedUnless, turnedOnto, alignAt}
-use Rattle.rings.specs.Starts.{alignedU, slidU, firstFor, laterFor, serves, firstServing, start}
+use Rattle.rings.specs.Starts.{bare, serves, firstServing, start, alignCuts, slideToCut}
 use Rattle.bands.specs.Given.{Measured, Given, only, givenOf}
-use Rattle.bands.specs.Rings.{Face, rising, shifted, laid, onto, onStrip, anyStraddles, acrossSeam, gapOf, recut, cutAnew, hasStrip, hasGap, reseam, alignCuts, slideToCut, trial, started}
+use Rattle.bands.specs.Rings.{Face, rising, shifted, laid, onto, onStrip, anyStraddles, acrossSeam, gapOf, recut, cutAnew, hasStrip, hasGap, reseam, trial, started}
 use Rattle.seam.specs.Gap.{insert, sorted, passed, gapAlong, widestGap, usable}
 use Rattle.surfaces.specs.declared.surface.Period.the-variants.{Every, None}
 use Rattle.surfaces.specs.Rungs.{division, divisionsFrom, slackOf, near, keptAfter, keptDivisions, endedOn, rungs, inner}
@@ -136,7 +136,7 @@ tube-strip : stripOf plain tube
     ≡ corner r0 r0 10 ∷ corner r1 r0 11 ∷ corner r2 r0 12 ∷ corner r4 r0 10 ∷ corner r4 r0 10
     ∷ corner r4 r4 40 ∷ corner r4 r5 50 ∷ corner r4 r1 20 ∷ corner r4 r1 20
     ∷ corner r2 r1 22 ∷ corner r1 r1 21 ∷ corner r0 r1 20 ∷ corner r0 r5 50 ∷ corner r0 r4 40 ∷ []
-unfolding stripOf strip heights ladder lowerRing upperRing lowerFirst firstIsLower lift joined laid rising shifted leastU greatestU reseam hasStrip acrossSeam onStrip anyStraddles started start firstServing firstFrom serves serve firstFor laterFor alignedU slidU beginsBackward standsAtTheCut trial turnedUnless alignCuts alignAt turnedOnto nearest firstLeast slideToCut unlessZero turned begun closed leastOf greatestOf meanOf sumOf absOf roundAway plain tube givenOf only lowLoop highLoop bore onto stripShift straddles floorOf add sub mul div neg lt le eq ne ofBits ofInt inner
+unfolding stripOf strip heights ladder lowerRing upperRing lowerFirst firstIsLower lift joined laid rising shifted leastU greatestU reseam hasStrip acrossSeam onStrip anyStraddles started start firstServing firstFrom serves serve beginsBackward standsAtTheCut trial turnedUnless alignCuts alignAt turnedOnto nearest firstLeast slideToCut unlessZero turned begun closed leastOf greatestOf meanOf sumOf absOf roundAway plain tube givenOf only lowLoop highLoop bore onto stripShift straddles floorOf add sub mul div neg lt le eq ne ofBits ofInt inner
 tube-strip = refl
 
 -- the repeats are gone
@@ -361,9 +361,9 @@ record Values : Type 0 where
         holes = [];
       }
   -- none of three starts serves: the fallback is the point after a backward step, and else the first
-  none-serves : firstServing r4 (r2 ∷ r1 ∷ r1 ∷ r6 ∷ []) (r0 ∷ r1 ∷ r2 ∷ r4 ∷ []) ≡ 3
-  fallback-past : start r4 (r2 ∷ r1 ∷ r1 ∷ r6 ∷ []) (r0 ∷ r1 ∷ r2 ∷ r4 ∷ []) ≡ 1
-  fallback-first : start r4 (r1 ∷ r1 ∷ r1 ∷ r5 ∷ []) (r0 ∷ r1 ∷ r2 ∷ r4 ∷ []) ≡ 0
+  none-serves : firstServing r4 (bare (r2 ∷ r1 ∷ r1 ∷ r6 ∷ [])) (bare (r0 ∷ r1 ∷ r2 ∷ r4 ∷ [])) ≡ 3
+  fallback-past : start r4 (bare (r2 ∷ r1 ∷ r1 ∷ r6 ∷ [])) (bare (r0 ∷ r1 ∷ r2 ∷ r4 ∷ [])) ≡ 1
+  fallback-first : start r4 (bare (r1 ∷ r1 ∷ r1 ∷ r5 ∷ [])) (bare (r0 ∷ r1 ∷ r2 ∷ r4 ∷ [])) ≡ 0
   -- both rings as the fallback begins them
   fallback-started : started r4 unserved
       ≡ record {
@@ -383,7 +383,7 @@ record Values : Type 0 where
   against-sense-lifted : stripOf (torus false) (rising-at r1 r2) ≡ up-from-falling r2 r5
 
 values : Values
-unfolding stripOf strip heights ladder lowerRing upperRing lowerFirst firstIsLower lift joined holes laid rising shifted leastU greatestU reseam hasStrip acrossSeam onStrip anyStraddles gapOf hasGap cutAnew recut firstOpenPast firstPast widestGap gapAlong sorted insert passed usable started start firstServing firstFrom serves serve firstFor laterFor alignedU slidU beginsBackward standsAtTheCut trial turnedUnless alignCuts alignAt turnedOnto nearest firstLeast slideToCut unlessZero turned begun closed leastOf greatestOf meanOf sumOf absOf roundAway plain givenOf only lowLoop highLoop five four drilled atCut beforeCut threeUp threeDown twiceUp twiceDown netWrap turnsCounted toSigned further reaches slot bored pierced late unserved thirds torus rising-at up-from-rising up-from-falling onto stripShift straddles floorOf add sub mul div neg lt le eq ne ofBits ofInt inner rungs endedOn keptDivisions keptAfter near slackOf divisionsFrom division outer dropMerging dropSuccessive dropTrailing keptFrom cutBack
+unfolding stripOf strip heights ladder lowerRing upperRing lowerFirst firstIsLower lift joined holes laid rising shifted leastU greatestU reseam hasStrip acrossSeam onStrip anyStraddles gapOf hasGap cutAnew recut firstOpenPast firstPast widestGap gapAlong sorted insert passed usable started start firstServing firstFrom serves serve beginsBackward standsAtTheCut trial turnedUnless alignCuts alignAt turnedOnto nearest firstLeast slideToCut unlessZero turned begun closed leastOf greatestOf meanOf sumOf absOf roundAway plain givenOf only lowLoop highLoop five four drilled atCut beforeCut threeUp threeDown twiceUp twiceDown netWrap turnsCounted toSigned further reaches slot bored pierced late unserved thirds torus rising-at up-from-rising up-from-falling onto stripShift straddles floorOf add sub mul div neg lt le eq ne ofBits ofInt inner rungs endedOn keptDivisions keptAfter near slackOf divisionsFrom division outer dropMerging dropSuccessive dropTrailing keptFrom cutBack
 values = record {
   one-branch = refl;
   not-past = refl;

@@ -12,7 +12,8 @@ use Rattle.rings.specs.Turns.{beginRingAt}
 use Rattle.bands.specs.Band.{pick, joined, lowerFirst, lowerRing, holes}
 use Rattle.tables.specs.Corners.{Corner, Corners, us, moveU}
 use Rattle.bands.specs.Given.{Loop, Given}
-use Rattle.bands.specs.Rings.{Face, rising, raised, lessU, shifted, laid, seam, onto, onStrip, acrossSeam, gapOf, recut, cutAnew, hasStrip, hasGap, reseam, alignCuts, slideToCut, trial, started}
+use Rattle.bands.specs.Rings.{Face, rising, shifted, laid, seam, onto, onStrip, acrossSeam, gapOf, recut, cutAnew, hasStrip, hasGap, reseam, trial, started}
+use Rattle.rings.specs.Starts.{raised, lessU, alignCuts, slideToCut}
 use Rattle.bands.specs.Strip.{Setting}
 use Rattle.bands.proofs.Recut.{at-open-point, recut-is}
 use Rattle.records.specs.Result.{All, Fits}
@@ -35,7 +36,7 @@ module _ {A : Type 0} {P : Corner A → Type 0} (moved : (f : Float → Float) �
   face-if false p q = q
 
   module _ (period : Float) where
-    less : (step : Float) (c : Corner A) → P c → P (lessU period step c)
+    less : (step : Float) (c : Corner A) → P c → P (lessU step c)
     less step = moved (λ u. u ⊖ step) (λ u. sub-fits binary64 u step)
 
     up : (step : Float) (c : Corner A) → P c → P (moveU (λ u. u ⊕ step) c)

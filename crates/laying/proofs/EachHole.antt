@@ -24,7 +24,8 @@ use Rattle.rings.specs.Choices.{stripShift, straddles}
 use Rattle.rings.proofs.Lengths.{length-unlessZero}
 use Rattle.seam.specs.Holes.{endOf}
 use Rattle.seam.proofs.EachHole.{Ending, ending, ending-turn, ending-end, no-ending}
-use Rattle.bands.specs.Rings.{lessU, onto, anyStraddles}
+use Rattle.bands.specs.Rings.{onto, anyStraddles}
+use Rattle.rings.specs.Starts.{lessU}
 
 -- ---- what is read of a part
 
@@ -44,11 +45,11 @@ end-in upper from to t x e =
 module _ (period lo : Float) where
   pub onto-is : (r r′ : Corners Vec3) (step : Float) → step ≡ stripShift period lo (us r) → r′ ≡ unlessZero step (moveU (movedBy (Down step))) r → r′ ≡ onto period lo r
   unfolding onto
-  onto-is r r′ step e d = d ∙ ap (λ (x : Float). unlessZero x (lessU period x) r) e
+  onto-is r r′ step e d = d ∙ ap (λ (x : Float). unlessZero x (lessU x) r) e
 
   pub length-onto : (r : Corners Vec3) → length (onto period lo r) ≡ length r
   unfolding onto
-  length-onto r = length-unlessZero (stripShift period lo (us r)) (lessU period (stripShift period lo (us r))) r
+  length-onto r = length-unlessZero (stripShift period lo (us r)) (lessU (stripShift period lo (us r))) r
 
   -- ---- every hole moved
 

@@ -19,7 +19,8 @@ use Rattle.rings.specs.Choices.{leastU, greatestU, firstOpenPast}
 use Rattle.rings.specs.Turns.{recutAt}
 use Rattle.seam.specs.declared.gap.Gap.{Gap}
 use Rattle.seam.specs.Gap.{Span, spanOf, widestGap, usable}
-use Rattle.bands.specs.Rings.{Face, raised, onto, onStrip, anyStraddles, acrossSeam, gapOf, recut, cutAnew, hasStrip, hasGap, reseam}
+use Rattle.bands.specs.Rings.{Face, onto, onStrip, anyStraddles, acrossSeam, gapOf, recut, cutAnew, hasStrip, hasGap, reseam}
+use Rattle.rings.specs.Starts.{raised}
 use Rattle.bands.proofs.Recut as Recut
 use Rattle.laying.specs.Held.{hasRoom, reseamWithin}
 use Rattle.laying.proofs.EachHole.{length-onto}

@@ -23,12 +23,12 @@ use Rattle.tables.specs.Rows.{rows}
 use Rattle.tables.proofs.Putting.{corners-back}
 use Rattle.rings.specs.Choices.{firstOf, nearest}
 use Rattle.rings.specs.Turns.{beginRingAt, alignAt}
-use Rattle.rings.specs.Starts.{raise, alignedU, slidU, start}
+use Rattle.rings.specs.Starts.{bare, lessU, raised, alignCuts, slideToCut, firstFor, laterFor, start}
 use Rattle.rings.proofs.Carried.{unless-unchanged, map-unlessZero, map-beginRingAt, map-alignAt}
-use Rattle.rings.proofs.Lengths.{length-beginRingAt, length-alignAt, length-unlessZero}
+use Rattle.rings.proofs.ByU.{first-by-u, later-by-u, length-firstFor, length-laterFor}
 use Rattle.starts.specs.declared.trials.Search.{Search}
-use Rattle.starts.specs.Trials.{searched, searchWithin}
-use Rattle.bands.specs.Rings.{Face, raised, lessU, alignCuts, slideToCut, started}
+use Rattle.starts.specs.Search.{searched, searchWithin}
+use Rattle.bands.specs.Rings.{Face, started}
 use Rattle.bands.specs.Rings as bands
 use Rattle.laying.specs.Held.{ringsIn, roomIn, startedWithin}
 
@@ -47,42 +47,22 @@ module _ (g : Corner Vec3 → Float) (r : Corners Vec3) (w w₁ : List Float) (r
   column-is = copied ∙ placed-whole (map g r) w (length-map r g ∙ sym room)
 
   module _ (w₂ : List Float) (stays : (f : Float → Float) (c : Corner Vec3) → g (moveU f c) ≡ g c) (period : Float) where
-    begun-column : (k : ℕ) → w₂ ≡ beginRingAt (movedBy Stay) k w₁ → w₂ ≡ map g (beginRingAt (raised period) k r)
+    begun-column : (k : ℕ) → w₂ ≡ beginRingAt (movedBy Stay) k w₁ → w₂ ≡ map g (firstFor period k r)
     begun-column k e =
         e ∙ ap (beginRingAt (movedBy Stay) k) column-is ∙ sym (map-beginRingAt g (raised period) (movedBy Stay) (stays (λ u. u ⊕ period)) k r)
 
     aligned-column : (cut : Float) (near : ℕ) → near ≡ nearest period cut (us r) → w₂ ≡ alignAt (movedBy Stay) (movedBy Stay) near w₁
-        → w₂ ≡ map g (slideToCut period cut (alignCuts period cut r))
+        → w₂ ≡ map g (laterFor period cut r)
     unfolding slideToCut alignCuts
     aligned-column cut near n e =
         let k = nearest period cut (us r) in
         let aligned = alignCuts period cut r in
         let step = cut ⊖ firstOf (us aligned) in
         e ∙ (λ i. alignAt (movedBy Stay) (movedBy Stay) (n i) (column-is i))
-        ∙ sym (map-alignAt g (raised period) (movedBy Stay) (stays (λ u. u ⊕ period)) (lessU period (branchShift (getD (us r) k nan) cut period)) (movedBy Stay) (stays (λ u. u ⊖ branchShift (getD (us r) k nan) cut period)) k r)
+        ∙ sym (map-alignAt g (raised period) (movedBy Stay) (stays (λ u. u ⊕ period)) (lessU (branchShift (getD (us r) k nan) cut period)) (movedBy Stay) (stays (λ u. u ⊖ branchShift (getD (us r) k nan) cut period)) k r)
         ∙ sym (map-unlessZero g (moveU (λ u. u ⊕ step)) unchanged (stays (λ u. u ⊕ step)) step aligned ∙ unless-unchanged step (map g aligned))
 
 module _ (period : Float) where
-  us-begun : (k : ℕ) (r : Corners Vec3) → beginRingAt (movedBy (Up period)) k (us r) ≡ us (beginRingAt (raised period) k r)
-  us-begun k r = sym (map-beginRingAt u-of (raised period) (movedBy (Up period)) (λ c. refl) k r)
-
-  us-put : (cut : Float) (r : Corners Vec3) → slidU period cut (alignedU period cut (us r)) ≡ us (slideToCut period cut (alignCuts period cut r))
-  unfolding slideToCut alignCuts slidU alignedU
-  us-put cut r =
-      let k = nearest period cut (us r) in
-      let aligned = alignCuts period cut r in
-      let step = cut ⊖ firstOf (us aligned) in
-      let a : alignedU period cut (us r) ≡ us aligned = sym (map-alignAt u-of (raised period) (raise period) (λ c. refl) (lessU period (branchShift (getD (us r) k nan) cut period)) (λ u. u ⊖ branchShift (getD (us r) k nan) cut period) (λ c. refl) k r) in
-      ap (slidU period cut) a ∙ sym (map-unlessZero u-of (moveU (λ u. u ⊕ step)) (λ u. u ⊕ step) (λ c. refl) step aligned)
-
-  length-put : (cut : Float) (r : Corners Vec3) → length (slideToCut period cut (alignCuts period cut r)) ≡ length r
-  unfolding slideToCut alignCuts
-  length-put cut r =
-      let k = nearest period cut (us r) in
-      let aligned = alignCuts period cut r in
-      let step = cut ⊖ firstOf (us aligned) in
-      length-unlessZero step (moveU (λ u. u ⊕ step)) aligned ∙ length-alignAt (raised period) (lessU period (branchShift (getD (us r) k nan) cut period)) k r
-
   -- ---- one ring
 
   module _ (r r′ : Corners Vec3) (u v x y z u₁ v₁ x₁ y₁ z₁ u₂ v₂ x₂ y₂ z₂ : List Float)
@@ -102,23 +82,23 @@ module _ (period : Float) where
     z-of c = c .at .z
 
     pub first-taken : (k : ℕ) → u₂ ≡ beginRingAt (movedBy (Up period)) k u₁ → v₂ ≡ beginRingAt (movedBy Stay) k v₁ → x₂ ≡ beginRingAt (movedBy Stay) k x₁
-        → y₂ ≡ beginRingAt (movedBy Stay) k y₁ → z₂ ≡ beginRingAt (movedBy Stay) k z₁ → r′ ≡ beginRingAt (raised period) k r
+        → y₂ ≡ beginRingAt (movedBy Stay) k y₁ → z₂ ≡ beginRingAt (movedBy Stay) k z₁ → r′ ≡ firstFor period k r
     first-taken k eu ev ex ey ez =
-        together r (beginRingAt (raised period) k r) r′ u₂ v₂ x₂ y₂ z₂ (length-beginRingAt (raised period) k r)
-        (eu ∙ ap (beginRingAt (movedBy (Up period)) k) (column-is u-of r u u₁ (room .0) (copied .0)) ∙ us-begun k r)
+        together r (firstFor period k r) r′ u₂ v₂ x₂ y₂ z₂ (length-firstFor period k r)
+        (eu ∙ ap (beginRingAt (movedBy (Up period)) k) (column-is u-of r u u₁ (room .0) (copied .0)) ∙ first-by-u period k r)
         (begun-column v-of r v v₁ (room .1 .0) (copied .1 .0) v₂ (λ f c. refl) period k ev)
         (begun-column x-of r x x₁ (room .1 .1 .0) (copied .1 .1 .0) x₂ (λ f c. refl) period k ex)
         (begun-column y-of r y y₁ (room .1 .1 .1 .0) (copied .1 .1 .1 .0) y₂ (λ f c. refl) period k ey)
         (begun-column z-of r z z₁ (room .1 .1 .1 .1) (copied .1 .1 .1 .1) z₂ (λ f c. refl) period k ez) back
 
-    pub later-taken : (cut : Float) (near : ℕ) → near ≡ nearest period cut u₁ → u₂ ≡ slidU period cut (alignedU period cut u₁) → v₂ ≡ alignAt (movedBy Stay) (movedBy Stay) near v₁
+    pub later-taken : (cut : Float) (near : ℕ) → near ≡ nearest period cut u₁ → u₂ ≡ us (laterFor period cut (bare u₁)) → v₂ ≡ alignAt (movedBy Stay) (movedBy Stay) near v₁
         → x₂ ≡ alignAt (movedBy Stay) (movedBy Stay) near x₁ → y₂ ≡ alignAt (movedBy Stay) (movedBy Stay) near y₁ → z₂ ≡ alignAt (movedBy Stay) (movedBy Stay) near z₁
-        → r′ ≡ slideToCut period cut (alignCuts period cut r)
+        → r′ ≡ laterFor period cut r
     later-taken cut near n eu ev ex ey ez =
         let a : u₁ ≡ us r = column-is u-of r u u₁ (room .0) (copied .0) in
         let m : near ≡ nearest period cut (us r) = n ∙ ap (nearest period cut) a in
-        together r (slideToCut period cut (alignCuts period cut r)) r′ u₂ v₂ x₂ y₂ z₂ (length-put cut r)
-        (eu ∙ ap (λ (w : List Float). slidU period cut (alignedU period cut w)) a ∙ us-put cut r)
+        together r (laterFor period cut r) r′ u₂ v₂ x₂ y₂ z₂ (length-laterFor period cut r)
+        (eu ∙ ap (λ (w : List Float). us (laterFor period cut (bare w))) a ∙ later-by-u period cut r)
         (aligned-column v-of r v v₁ (room .1 .0) (copied .1 .0) v₂ (λ f c. refl) period cut near m ev)
         (aligned-column x-of r x x₁ (room .1 .1 .0) (copied .1 .1 .0) x₂ (λ f c. refl) period cut near m ex)
         (aligned-column y-of r y y₁ (room .1 .1 .1 .0) (copied .1 .1 .1 .0) y₂ (λ f c. refl) period cut near m ey)
@@ -140,16 +120,16 @@ module _ (period : Float) (room n m : ℕ) (first later : List Float) (n-is : n 
         let h : length (rows first) + length (rows later) ≤ room = omega arith in
         r-is ∙ rw (le-ltb room (length (rows first) + length (rows later)) h)
 
-    module _ (first′ later′ : Corners Vec3) (cut : Float) (ef : first′ ≡ beginRingAt (raised period) (r .start) (rows first)) (ec : cut ≡ firstOf (us first′))
-        (el : later′ ≡ slideToCut period cut (alignCuts period cut (rows later))) (holes : List (Corners Vec3)) where
+    module _ (first′ later′ : Corners Vec3) (cut : Float) (ef : first′ ≡ firstFor period (r .start) (rows first)) (ec : cut ≡ firstOf (us first′))
+        (el : later′ ≡ laterFor period cut (rows later)) (holes : List (Corners Vec3)) where
       within : startedWithin period room (ringsIn first later holes) ≡ started period (ringsIn first later holes)
       unfolding startedWithin
       within =
           let h : length (rows first) + length (rows later) ≤ room = omega arith in
           ap (λ (b : Bool). cond b (ringsIn first later holes) (started period (ringsIn first later holes))) (le-ltb room (length (rows first) + length (rows later)) h)
 
-      at-start : first′ ≡ beginRingAt (raised period) (start period (us (rows first)) (us (rows later))) (rows first)
-      at-start = ef ∙ ap (λ (s : Search). beginRingAt (raised period) (s .start) (rows first)) found
+      at-start : first′ ≡ firstFor period (start period (rows first) (rows later)) (rows first)
+      at-start = ef ∙ ap (λ (s : Search). firstFor period (s .start) (rows first)) found
 
       at-first : first′ ≡ started period (ringsIn first later holes) .first
       unfolding started bands.trial
@@ -157,7 +137,7 @@ module _ (period : Float) (room n m : ℕ) (first later : List Float) (n-is : n 
 
       at-later : later′ ≡ started period (ringsIn first later holes) .later
       unfolding started bands.trial
-      at-later = el ∙ ap (λ (c : Float). slideToCut period c (alignCuts period c (rows later))) (ec ∙ ap (λ (s : Corners Vec3). firstOf (us s)) at-start)
+      at-later = el ∙ ap (λ (c : Float). laterFor period c (rows later)) (ec ∙ ap (λ (s : Corners Vec3). firstOf (us s)) at-start)
 
       pub first-started : first′ ≡ startedWithin period room (ringsIn first later holes) .first
       first-started = at-first ∙ ap (λ (f : Face Vec3). f .first) (sym within)
@@ -208,8 +188,8 @@ module _ (period : Float) (u v x y z : List Float) (p q o room : ℕ) (p-is : p 
         let s : all < n + m = subst (λ (j : ℕ). j < n + m) room-all h in
         (answer, (λ holes. ap (λ (f : Face Vec3). f .first) (not-started period all n m first later n-is m-is s holes), λ holes. ap (λ (f : Face Vec3). f .later) (not-started period all n m first later n-is m-is s holes)))
 
-    pub start-taken : n + m ≤ room → (first′ later′ : Corners Vec3) (cut : Float) → first′ ≡ beginRingAt (raised period) (r .start) (rows first) → cut ≡ firstOf (us first′)
-        → later′ ≡ slideToCut period cut (alignCuts period cut (rows later)) → Taken first′ later′
+    pub start-taken : n + m ≤ room → (first′ later′ : Corners Vec3) (cut : Float) → first′ ≡ firstFor period (r .start) (rows first) → cut ≡ firstOf (us first′)
+        → later′ ≡ laterFor period cut (rows later) → Taken first′ later′
     start-taken h first′ later′ cut ef ec el =
         let s : n + m ≤ all = subst (λ (j : ℕ). n + m ≤ j) room-all h in
         (answer, (first-started period all n m first later n-is m-is s r answer first′ later′ cut ef ec el, later-started period all n m first later n-is m-is s r answer first′ later′ cut ef ec el))

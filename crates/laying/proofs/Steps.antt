@@ -12,7 +12,8 @@ use Rattle.tables.specs.Moves.{movedBy}
 use Rattle.tables.specs.declared.moves.Move.the-variants.{Down}
 use Rattle.tables.specs.Rows.{rows}
 use Rattle.rings.specs.Choices.{leastU, firstOf}
-use Rattle.bands.specs.Rings.{rising, shifted, laid, lessU}
+use Rattle.bands.specs.Rings.{rising, shifted, laid}
+use Rattle.rings.specs.Starts.{lessU}
 use Rattle.laying.specs.Held.{loopIn, givenIn}
 
 pub rises : (t : List Float) (falls : Bool) (r : Corners Vec3) → falls ≡ true → r ≡ reverse (rows t) → r ≡ rising (loopIn t falls)
@@ -27,7 +28,7 @@ module _ (period : Float) where
   shift-is : (least first step : Float) (r r′ : Corners Vec3) → first ≡ firstOf (us r) → step ≡ branchShift first least period
       → r′ ≡ map (moveU (movedBy (Down step))) r → r′ ≡ shifted period least r
   unfolding shifted
-  shift-is least first step r r′ a b e = e ∙ ap (λ (s : Float). map (lessU period s) r) (b ∙ ap (λ (x : Float). branchShift x least period) a)
+  shift-is least first step r r′ a b e = e ∙ ap (λ (s : Float). map (lessU s) r) (b ∙ ap (λ (x : Float). branchShift x least period) a)
 
   -- the ring's first point, near the least u; of no points nothing is said
   first-lands : (least first step : Float) (r : Corners Vec3) → fits binary64 first ≡ true → fits binary64 least ≡ true

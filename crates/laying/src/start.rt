@@ -7,8 +7,9 @@ ghost use Rattle.numbers.specs.declared.math.Vec3.{Vec3};
 ghost use Rattle.tables.specs.Corners.{Corners};
 ghost use Rattle.tables.specs.Rows.{rows};
 ghost use Rattle.rings.specs.Turns.{beginRingAt};
-ghost use Rattle.starts.specs.Trials.{searchWithin};
-ghost use Rattle.bands.specs.Rings.{raised, alignCuts, slideToCut, trial};
+ghost use Rattle.starts.specs.Search.{searchWithin};
+ghost use Rattle.bands.specs.Rings.{trial};
+ghost use Rattle.rings.specs.Starts.{firstFor, laterFor};
 ghost use Rattle.laying.specs.Held.{ringsIn, roomIn, startedWithin};
 use rings::choices::nearest;
 use rings::moves::align_at;
@@ -36,7 +37,7 @@ fn take_first(
     period: f64,
 )
     requires { ⌜ (length (now u) ≡ length (rows (now first))) × ((length (now v) ≡ length (rows (now first))) × ((length (now x) ≡ length (rows (now first))) × ((length (now y) ≡ length (rows (now first))) × (length (now z) ≡ length (rows (now first)))))) ⌝ }
-    ensures { λ _. ⌜ rows (now (first .exit)) ≡ beginRingAt (raised period) k (rows (now (first .entry))) ⌝ }
+    ensures { λ _. ⌜ rows (now (first .exit)) ≡ firstFor period k (rows (now (first .entry))) ⌝ }
 {
     columns_into(first, u, v, x, y, z);
     begin_ring_at(u, k, Move::Up(period));
@@ -59,7 +60,7 @@ fn take_later(
     period: f64,
 )
     requires { ⌜ (length (now u) ≡ length (rows (now later))) × ((length (now v) ≡ length (rows (now later))) × ((length (now x) ≡ length (rows (now later))) × ((length (now y) ≡ length (rows (now later))) × (length (now z) ≡ length (rows (now later)))))) ⌝ }
-    ensures { λ _. ⌜ rows (now (later .exit)) ≡ slideToCut period cut (alignCuts period cut (rows (now (later .entry)))) ⌝ }
+    ensures { λ _. ⌜ rows (now (later .exit)) ≡ laterFor period cut (rows (now (later .entry))) ⌝ }
 {
     columns_into(later, u, v, x, y, z);
     let near = nearest(u, cut, period);
@@ -83,7 +84,7 @@ fn first_within(
     period: f64,
 )
     requires { ⌜ (length (rows (now first)) ≤ length (now u)) × ((length (rows (now first)) ≤ length (now v)) × ((length (rows (now first)) ≤ length (now x)) × ((length (rows (now first)) ≤ length (now y)) × (length (rows (now first)) ≤ length (now z))))) ⌝ }
-    ensures { λ _. ⌜ rows (now (first .exit)) ≡ beginRingAt (raised period) k (rows (now (first .entry))) ⌝ }
+    ensures { λ _. ⌜ rows (now (first .exit)) ≡ firstFor period k (rows (now (first .entry))) ⌝ }
 {
     let n = count(first);
     take_first(
@@ -109,7 +110,7 @@ fn later_within(
     period: f64,
 )
     requires { ⌜ (length (rows (now later)) ≤ length (now u)) × ((length (rows (now later)) ≤ length (now v)) × ((length (rows (now later)) ≤ length (now x)) × ((length (rows (now later)) ≤ length (now y)) × (length (rows (now later)) ≤ length (now z))))) ⌝ }
-    ensures { λ _. ⌜ rows (now (later .exit)) ≡ slideToCut period cut (alignCuts period cut (rows (now (later .entry)))) ⌝ }
+    ensures { λ _. ⌜ rows (now (later .exit)) ≡ laterFor period cut (rows (now (later .entry))) ⌝ }
 {
     let n = count(later);
     take_later(

@@ -28,7 +28,8 @@ use Rattle.seam.specs.Gap.{Span, spanOf, insert, sorted, passed, gapAlong, wide
 use Rattle.seam.specs.declared.gap.Gap.{Gap}
 use Rattle.tables.specs.Corners.{Corner, Corners, us, moveU}
 use Rattle.bands.specs.Given.{Loop, Given}
-use Rattle.bands.specs.Rings.{Face, rising, lessU, raised, shifted, laid, seam, onto, onStrip, gapOf, recut, cutAnew, hasStrip, acrossSeam, hasGap, reseam, alignCuts, slideToCut, trial, started}
+use Rattle.bands.specs.Rings.{Face, rising, shifted, laid, seam, onto, onStrip, gapOf, recut, cutAnew, hasStrip, acrossSeam, hasGap, reseam, trial, started}
+use Rattle.rings.specs.Starts.{lessU, raised, alignCuts, slideToCut}
 use Rattle.bands.proofs.Recut.{at-open-point, recut-is}
 use Rattle.records.specs.Result.{All, none, and}
 use Rattle.judgement.proofs.Each.{all-in, all-append, all-dropLast, all-reverse, all-if, all-map, all-so, all-begun, all-closed, all-recutAt}
@@ -69,7 +70,7 @@ module _ {A : Type 0} where
   -- ---- moved by a step of at most S
 
   module _ (B S : ℕ) (few : B + S < 2 ^ 53) (step : Float) (w : Within S step) where
-    less-in : (c : Corner A) → U B c → U (B + S) (lessU TAU step c)
+    less-in : (c : Corner A) → U B c → U (B + S) (lessU step c)
     less-in c h = record { within = sub-within B S (c .u) step (held-small (B + S) few) (h .within) w; fits = sub-fits binary64 (c .u) step }
 
     up-in : (c : Corner A) → U B c → U (B + S) (moveU (λ u. u ⊕ step) c)
@@ -218,7 +219,7 @@ module _ {A : Type 0} where
   shifted-reach least r w h =
       let step = branchShift (firstOf (us r)) least TAU in
       let far : Within 132 step = branch-within 64 64 (lit≤ tt) (lit≤ tt) (firstOf (us r)) least (first-reach 64 r h) w in
-      moved-reach 64 132 (lit< tt) step far (lessU TAU step) (less-in 64 132 (lit< tt) step far) r h
+      moved-reach 64 132 (lit< tt) step far (lessU step) (less-in 64 132 (lit< tt) step far) r h
 
   laid-reach : (g : Given A) → GivenReach 64 g → Reaches 196 64 (laid TAU g)
   unfolding laid leastU
@@ -242,7 +243,7 @@ module _ {A : Type 0} where
       let step = stripShift TAU lo (us hole) in
       let far : Within (B + C + 7) step = strip-shift-within B C b c lo w (us-each B hole h) (us-some B hole h) in
       let few : B + (B + C + 7) < 2 ^ 53 = omega arith in
-      unless-reach B (B + C + 7) few step far (lessU TAU step) (less-in B (B + C + 7) few step far) hole h
+      unless-reach B (B + C + 7) few step far (lessU step) (less-in B (B + C + 7) few step far) hole h
 
   on-strip-reach : (f : Face A) → Reaches 196 64 f → Reaches 196 331 (onStrip TAU f)
   unfolding onStrip
@@ -309,7 +310,7 @@ module _ {A : Type 0} where
     back = branchShift (getD (us r) near nan) cut TAU
 
     abbrev onto-cut : Corners A
-    onto-cut = turnedOnto (raised TAU) (lessU TAU back) near r
+    onto-cut = turnedOnto (raised TAU) (lessU back) near r
 
     module _ (long : 3 ≤ length r) where
       near-place : near < length r - 1
@@ -326,7 +327,7 @@ module _ {A : Type 0} where
 
       turned-each : All (U 641) onto-cut
       unfolding turnedOnto
-      turned-each = closed-in 634 (lit< tt) (all-map (lessU TAU back) (less-in 210 424 (lit< tt) back back-in) (begun-in 203 (lit< tt) near (all-dropLast r (h .each))))
+      turned-each = closed-in 634 (lit< tt) (all-map (lessU back) (less-in 210 424 (lit< tt) back back-in) (begun-in 203 (lit< tt) near (all-dropLast r (h .each))))
 
       -- its first point is near the cut, and so the ring slides by at most 4
       first-there : firstOf (us onto-cut) ≡ getD (us r) near nan ⊖ back
@@ -335,7 +336,7 @@ module _ {A : Type 0} where
           go : (l : Corners A) → l ≡ r → firstOf (us onto-cut) ≡ getD (us r) near nan ⊖ back
           go [] e = absurd (let p = near-place in let q = ap length e in omega arith)
           go (z ∷ l) e =
-              let t = turned-first (raised TAU) (lessU TAU back) near r z near-place in
+              let t = turned-first (raised TAU) (lessU back) near r z near-place in
               let p = near-place in
               ap (λ (x : Corners A). firstOf (us x)) (t .1) ∙ ap (λ (u : Float). u ⊖ back) (sym (getD-map (λ (c : Corner A). c .u) r near nan z (omega arith)))
 
@@ -357,7 +358,7 @@ module _ {A : Type 0} where
             reach-more 623 645 _ (lit≤ tt) (slid 203 420 (lit< tt) r far h)
         go false e =
             let long = ltb-false (length r) 3 e in
-            let same : length onto-cut ≡ length r = rw e at (length-alignAt (raised TAU) (lessU TAU back) near r) in
+            let same : length onto-cut ≡ length r = rw e at (length-alignAt (raised TAU) (lessU back) near r) in
             let some : 0 < length onto-cut = omega arith in
             slid 641 4 (lit< tt) onto-cut (slide-few long) (record { some = some; each = turned-each long })
 

@@ -5,3 +5,4 @@ pub mod Decisions
 pub mod Shifts
 pub mod TurnedRows
 pub mod ReadRows
+pub mod ByU

@@ -7,16 +7,17 @@ ghost use Rattle.lists.specs.Placed.{placed};
 ghost use Rattle.tables.specs.Corners.{us};
 ghost use Rattle.tables.specs.Rows.{rows};
 ghost use Rattle.rings.specs.Choices.{beginsBackward};
-ghost use Rattle.rings.specs.Starts.{alignedU, slidU, firstFor, serves, firstServing};
-ghost use Rattle.starts.specs.Trials.{searchWithin};
-use crate::first_for;
+ghost use Rattle.rings.specs.Starts.{firstFor, laterFor, serves, firstServing};
+ghost use Rattle.starts.specs.Search.{searchWithin};
 use crate::later_for;
 use rings::choices::begins_backward;
 use rings::choices::first_of;
 use rings::choices::serve;
+use rings::moves::begin_ring_at;
 use tables::copies::us_into;
 use tables::corners::count;
 use tables::corners::u_at;
+use tables::moves::Move;
 
 // The chosen start, how many were tried, and whether one served. Where none did, the start is the
 // fallback's.
@@ -29,16 +30,16 @@ pub struct Search {
 // The first ring's u, begun at its point k, in a place of their length.
 fn first_into(u: &mut [f64], first: &[f64], k: usize, period: f64)
     requires { ⌜ length (now u) ≡ length (rows (now first)) ⌝ }
-    ensures { λ _. ⌜ now (u .exit) ≡ firstFor period k (us (rows (now (first .entry)))) ⌝ }
+    ensures { λ _. ⌜ now (u .exit) ≡ us (firstFor period k (rows (now (first .entry)))) ⌝ }
 {
     us_into(u, first);
-    first_for(u, k, period);
+    begin_ring_at(u, k, Move::Up(period));
 }
 
 // A later ring's u, put to the cut, in a place of their length.
 fn later_into(u: &mut [f64], later: &[f64], cut: f64, period: f64)
     requires { ⌜ length (now u) ≡ length (rows (now later)) ⌝ }
-    ensures { λ _. ⌜ now (u .exit) ≡ slidU period cut (alignedU period cut (us (rows (now (later .entry))))) ⌝ }
+    ensures { λ _. ⌜ now (u .exit) ≡ us (laterFor period cut (rows (now (later .entry)))) ⌝ }
 {
     us_into(u, later);
     later_for(u, cut, period);
@@ -46,7 +47,7 @@ fn later_into(u: &mut [f64], later: &[f64], cut: f64, period: f64)
 
 fn try_first(trial: &mut [f64], first: &[f64], k: usize, period: f64)
     requires { ⌜ length (rows (now first)) ≤ length (now trial) ⌝ }
-    ensures { λ _. ⌜ now (trial .exit) ≡ placed 0 (firstFor period k (us (rows (now (first .entry))))) (now (trial .entry)) ⌝ }
+    ensures { λ _. ⌜ now (trial .exit) ≡ placed 0 (us (firstFor period k (rows (now (first .entry))))) (now (trial .entry)) ⌝ }
 {
     let end = count(first);
     first_into(&mut trial[0..end], first, k, period);
@@ -54,7 +55,7 @@ fn try_first(trial: &mut [f64], first: &[f64], k: usize, period: f64)
 
 fn try_later(trial: &mut [f64], from: usize, later: &[f64], cut: f64, period: f64)
     requires { ⌜ from + length (rows (now later)) ≤ length (now trial) ⌝ }
-    ensures { λ _. ⌜ now (trial .exit) ≡ placed from (slidU period cut (alignedU period cut (us (rows (now (later .entry)))))) (now (trial .entry)) ⌝ }
+    ensures { λ _. ⌜ now (trial .exit) ≡ placed from (us (laterFor period cut (rows (now (later .entry))))) (now (trial .entry)) ⌝ }
 {
     let end = from + count(later);
     later_into(&mut trial[from..end], later, cut, period);
@@ -64,7 +65,7 @@ fn try_later(trial: &mut [f64], from: usize, later: &[f64], cut: f64, period: f6
 // afterwards.
 fn serves(trial: &mut [f64], first: &[f64], later: &[f64], k: usize, period: f64) -> bool
     requires { ⌜ length (rows (now first)) + length (rows (now later)) ≤ length (now trial) ⌝ }
-    ensures { λ r. ⌜ r ≡ serves period (us (rows (now (first .entry)))) (us (rows (now (later .entry)))) k ⌝ }
+    ensures { λ r. ⌜ r ≡ serves period (rows (now (first .entry))) (rows (now (later .entry))) k ⌝ }
 {
     let n = count(first);
     let end = n + count(later);
@@ -80,7 +81,7 @@ fn serves(trial: &mut [f64], first: &[f64], later: &[f64], k: usize, period: f64
 
 // How many starts the first ring has: its last point repeats its first.
 fn starts(first: &[f64]) -> usize
-    ensures { λ r. ⌜ r ≡ length (us (rows (now (first .entry)))) - 1 ⌝ }
+    ensures { λ r. ⌜ r ≡ length (rows (now (first .entry))) - 1 ⌝ }
 {
     let n = count(first);
     if n == 0 {
@@ -92,7 +93,7 @@ fn starts(first: &[f64]) -> usize
 // The first start that serves, and how many there are where none does.
 fn first_serving(trial: &mut [f64], first: &[f64], later: &[f64], period: f64) -> usize
     requires { ⌜ length (rows (now first)) + length (rows (now later)) ≤ length (now trial) ⌝ }
-    ensures { λ r. ⌜ r ≡ firstServing period (us (rows (now (first .entry)))) (us (rows (now (later .entry)))) ⌝ }
+    ensures { λ r. ⌜ r ≡ firstServing period (rows (now (first .entry))) (rows (now (later .entry))) ⌝ }
 {
     let all = starts(first);
     let mut k = 0;

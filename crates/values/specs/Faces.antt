@@ -30,13 +30,13 @@ use Rattle.loops.specs.Span.{leastOf, greatestOf}
 use Rattle.loops.specs.Steps.{net, netOf, count, stepsRound, stepsAlong}
 use Rattle.loops.specs.Wrap.{netWrap, turnsCounted}
 use Rattle.rings.specs.Choices.{leastU, greatestU, firstPast, firstOpenPast, stripShift, straddles, nearest, firstLeast, firstFrom as startFrom, serve, beginsBackward, standsAtTheCut}
-use Rattle.rings.specs.Starts.{alignedU, slidU, firstFor, laterFor, serves, firstServing, start as startOf}
+use Rattle.rings.specs.Starts.{serves, firstServing, start as startOf, alignCuts, slideToCut}
 use Rattle.tables.specs.Moves.{unlessZero}
 use Rattle.rings.specs.Turns.{turnedUnless, turnedOnto, alignAt}
 use Rattle.seam.specs.Gap.{insert, sorted, passed, gapAlong, widestGap, usable}
 use Rattle.bands.specs.Band.{firstIsLower, lift, joined, lowerFirst, lowerRing, upperRing, stripOf, outer, holes}
 use Rattle.bands.specs.Given.{only, givenOf}
-use Rattle.bands.specs.Rings.{rising, shifted, laid, onto, onStrip, anyStraddles, acrossSeam, gapOf, recut, cutAnew, hasStrip, hasGap, reseam, alignCuts, slideToCut, trial, started}
+use Rattle.bands.specs.Rings.{rising, shifted, laid, onto, onStrip, anyStraddles, acrossSeam, gapOf, recut, cutAnew, hasStrip, hasGap, reseam, trial, started}
 use Rattle.bands.specs.Strip.{ladder, heights, strip}
 use Rattle.records.specs.Bytes.{number, numberAt, realAt, uvAt, xyzAt, rowAt, bytes, real, uv, xyz, row, sum}
 use Rattle.records.specs.Call as Call
@@ -198,7 +198,7 @@ pub record Faces : Type 0 where
   pub exchanged-closed : judge 61614 exchanged ≡ closed exchangedWritten
 
 pub faces : Faces
-unfolding Call.judge verdict tooFewLent wrongByte wrongHeader tooManyLoops endsInCounts tooFewPoints tooManyPoints wrongLength badReal firstBadReal firstFrom number numberAt realAt start bytes real row holds headRange radius second uvRange uRange vRange range ofBits ofFields odd toBits le lt eq ne neg add sub mul div ofInt toSigned toUnsigned absOf roundAway floorOf ceilOf sincosOf sqrtOf lengthOf directionOf normalizedOr leastAxis perpendicularOf frameOf polarOf frameIn surfaceOf surfaceIn optionsIn senseIn cornersFrom cornersIn loopsIn measuredIn wrapping settingIn givenIn loopIn openRing oneRing manyRings openSurface stripPoints longStrip loopsFrom wrappedLoops pathIn resultLoops resultIn encode resultOf together uv xyz uvAt xyzAt rowAt sum counts parameters positions pieces only uPeriod vPeriod areaOf crossSum crossAt leastOf greatestOf netWrap turnsCounted endsMeet same givenOf stripOf strip heights ladder lowerRing upperRing lowerFirst firstIsLower lift joined laid rising shifted leastU greatestU reseam hasStrip hasGap acrossSeam onStrip anyStraddles gapOf cutAnew recut firstOpenPast firstPast widestGap gapAlong sorted insert passed usable started startOf firstServing startFrom serves serve firstFor laterFor alignedU slidU beginsBackward standsAtTheCut trial turnedUnless alignCuts alignAt turnedOnto nearest firstLeast slideToCut unlessZero turned begun ringClosed meanOf sumOf onto stripShift straddles inner rungs endedOn keptDivisions keptAfter near rungSlack divisionsFrom division vStepsOf segmentsOf angleStepOf sagAngle raisedOf torusOf pointOf outer holes dropMerging dropSuccessive dropTrailing keptFrom cutBack net netOf count stepsRound stepsAlong decode countsIn cornersBack loopPositionsOf loopPositions
+unfolding Call.judge verdict tooFewLent wrongByte wrongHeader tooManyLoops endsInCounts tooFewPoints tooManyPoints wrongLength badReal firstBadReal firstFrom number numberAt realAt start bytes real row holds headRange radius second uvRange uRange vRange range ofBits ofFields odd toBits le lt eq ne neg add sub mul div ofInt toSigned toUnsigned absOf roundAway floorOf ceilOf sincosOf sqrtOf lengthOf directionOf normalizedOr leastAxis perpendicularOf frameOf polarOf frameIn surfaceOf surfaceIn optionsIn senseIn cornersFrom cornersIn loopsIn measuredIn wrapping settingIn givenIn loopIn openRing oneRing manyRings openSurface stripPoints longStrip loopsFrom wrappedLoops pathIn resultLoops resultIn encode resultOf together uv xyz uvAt xyzAt rowAt sum counts parameters positions pieces only uPeriod vPeriod areaOf crossSum crossAt leastOf greatestOf netWrap turnsCounted endsMeet same givenOf stripOf strip heights ladder lowerRing upperRing lowerFirst firstIsLower lift joined laid rising shifted leastU greatestU reseam hasStrip hasGap acrossSeam onStrip anyStraddles gapOf cutAnew recut firstOpenPast firstPast widestGap gapAlong sorted insert passed usable started startOf firstServing startFrom serves serve beginsBackward standsAtTheCut trial turnedUnless alignCuts alignAt turnedOnto nearest firstLeast slideToCut unlessZero turned begun ringClosed meanOf sumOf onto stripShift straddles inner rungs endedOn keptDivisions keptAfter near rungSlack divisionsFrom division vStepsOf segmentsOf angleStepOf sagAngle raisedOf torusOf pointOf outer holes dropMerging dropSuccessive dropTrailing keptFrom cutBack net netOf count stepsRound stepsAlong decode countsIn cornersBack loopPositionsOf loopPositions
 faces = record {
   third = refl;
   two-thirds = refl;

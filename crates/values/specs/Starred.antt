@@ -22,7 +22,7 @@ use Rattle.regions.specs.Values.{squareU, squareV, equal-squares}
 use Rattle.rings.specs.Choices.{nearest, firstLeast}
 use Rattle.rings.specs.Turns.{turnedOnto, alignAt}
 use Rattle.tables.specs.Corners.{Corner}
-use Rattle.bands.specs.Rings.{alignCuts}
+use Rattle.rings.specs.Starts.{alignCuts}
 
 -- a loop that travels so far in u
 abbrev travels : Float → List Float

@@ -49,4 +49,3 @@ pub fn crosses(with_lower: bool, with_upper: bool, lower: f64, upper: f64) -> bo
     }
     false
 }
-

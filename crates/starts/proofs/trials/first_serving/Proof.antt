@@ -1,39 +1,28 @@
 use Prim.Native.Nat.{_-_}
 use native.Mathlib.Omega.{arith}
-use Rattle.tables.specs.Corners.{us}
 use Rattle.tables.specs.Rows.{rows}
-use Rattle.starts.proofs.OnTables.{trying-tables, trial-room}
 use borrow.Author.Needs.{needs}
 use Rattle.starts.proofs.Laws as laws
 use Rattle.starts.proofs.trials.first_serving.Statement.{statement}
 use Rattle.starts.proofs.trials.first_serving.Tie as tie
 
 abbrev Inv-loop : tie.InvT-loop
-Inv-loop trial₀ first later period all k₀ trial k = laws.Trying period (us (rows first)) (us (rows later)) all trial₀ trial k
+Inv-loop trial₀ first later period all k₀ trial k = laws.Trying period (rows first) (rows later) all trial₀ trial k
 
 abbrev μ-loop : tie.MeasureT-loop
 μ-loop trial₀ first later period all k₀ trial k = all - k
 
-starts-requires : tie.Need-starts-requires Inv-loop μ-loop
-starts-requires c κs = search needs
-
 loop-holds : tie.Need-loop-holds Inv-loop μ-loop
-loop-holds c = trying-tables _ _ _ _ _ (c .before .before .before .before .pre) (c .starts .ensures)
+loop-holds c = laws.trying _ _ _ _ _ (c .before .before .before .before .pre) (c .starts .ensures)
 
 serves-requires : tie.Need-serves-requires Inv-loop μ-loop
-serves-requires c κs = trial-room _ _ _ (c .before .before .loop .inv .room)
+serves-requires c κs = c .before .before .loop .inv .room
 
 same-length : tie.Need-same-length Inv-loop μ-loop
 same-length c = omega (arith, c .before .before .before .before .before .before .loop .inv .long)
 
 returns : tie.Need-returns Inv-loop μ-loop
 returns c = laws.trying-found _ _ _ _ _ _ _ (c .before .before .before .before .before .before .loop .inv) _ (c .before .before .before .before .before .loop-test .taken) (c .before .before .before .serves .ensures) (c .if1 .taken)
-
-add-k : tie.Need-add-k Inv-loop μ-loop
-add-k c = omega arith
-
-loop-less : tie.Need-loop-less Inv-loop μ-loop
-loop-less c = omega arith
 
 loop-again : tie.Need-loop-again Inv-loop μ-loop
 loop-again c = laws.trying-turn _ _ _ _ _ _ _ (c .before .before .before .before .before .before .loop .inv) _ _ (search needs) (c .before .before .before .before .before .loop-test .taken) (c .before .before .before .serves .ensures) (c .if1 .left)
@@ -50,13 +39,13 @@ first-serving-spec =
     (tie.spec
     Inv-loop
     μ-loop
-    starts-requires
+    (λ c κs. search needs)
     loop-holds
     serves-requires
     same-length
     returns
-    add-k
-    loop-less
+    (λ c. omega arith)
+    (λ c. omega arith)
     loop-again
     same-length-2
     returns-2)
