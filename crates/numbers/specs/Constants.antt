@@ -10,6 +10,19 @@ half = ofBits binary64 0x3fe0_0000_0000_0000
 abbrev pub one : Float
 one = ofBits binary64 0x3ff0_0000_0000_0000
 
+-- the tolerances of the papers and of the Rust: each is the double nearest to the number that its name says
+abbrev pub 10^-3 : Float
+10^-3 = ofBits binary64 0x3f50_624d_d2f1_a9fc
+
+abbrev pub 10^-6 : Float
+10^-6 = ofBits binary64 0x3eb0_c6f7_a0b5_ed8d
+
+abbrev pub 10^-9 : Float
+10^-9 = ofBits binary64 0x3e11_2e0b_e826_d695
+
+abbrev pub 10^-12 : Float
+10^-12 = ofBits binary64 0x3d71_9799_812d_ea11
+
 abbrev pub thousand : Float
 thousand = ofBits binary64 0x408f_4000_0000_0000
 

@@ -21,8 +21,8 @@ fn half_up(x: f64) -> f64
     }
 }
 
-// x above zero, cut.
-fn cut_down(x: f64) -> f64
+// x above zero, rounded down.
+fn floor_positive(x: f64) -> f64
     requires { ⌜ T (Ieee.lt (fin false 0 (pos 0)) x) ⌝ }
     ensures { λ r. ⌜ r ≡ floorOf x ⌝ }
 {
@@ -34,7 +34,7 @@ fn cut_down(x: f64) -> f64
 }
 
 // x above zero, rounded up.
-fn cut_up(x: f64) -> f64
+fn ceil_positive(x: f64) -> f64
     requires { ⌜ T (Ieee.lt (fin false 0 (pos 0)) x) ⌝ }
     ensures { λ r. ⌜ r ≡ ceilOf x ⌝ }
 {
@@ -69,9 +69,9 @@ pub fn floor(x: f64) -> f64
     ensures { λ r. ⌜ r ≡ floorOf x ⌝ }
 {
     if x > 0.0 {
-        cut_down(x)
+        floor_positive(x)
     } else if x < 0.0 {
-        -cut_up(-x)
+        -ceil_positive(-x)
     } else {
         x
     }
@@ -81,9 +81,9 @@ pub fn ceil(x: f64) -> f64
     ensures { λ r. ⌜ r ≡ ceilOf x ⌝ }
 {
     if x > 0.0 {
-        cut_up(x)
+        ceil_positive(x)
     } else if x < 0.0 {
-        -cut_down(-x)
+        -floor_positive(-x)
     } else {
         x
     }
@@ -98,6 +98,22 @@ pub fn as_usize(x: f64) -> usize
             return std::num::truncating_f64_to_u64(x) as usize;
         }
         return usize::MAX;
+    }
+    0
+}
+
+// Rust's `x as i32`: x without its fraction, kept to what an i32 holds, and 0 for a NaN.
+pub fn as_i32(x: f64) -> i32
+    ensures { λ r. ⌜ r ≡ Ieee.toSigned 31 x ⌝ }
+{
+    if x < 2147483648.0 {
+        if -2147483649.0 < x {
+            return std::num::truncating_f64_to_i64(x) as i32;
+        }
+        return -2147483648;
+    }
+    if 0.0 < x {
+        return 2147483647;
     }
     0
 }

@@ -6,14 +6,10 @@ use mathlib.Core.List.{List, [], _∷_, _++_, foldl}
 use lib.Dec.{eqb}
 use lib.ListN.{length, getD, take, drop}
 use lib.Ieee.{Float, nan, binary64, ofBits, lt, le}
-use Rattle.numbers.specs.Constants.{plusZero}
+use Rattle.numbers.specs.Constants.{plusZero, 10^-9}
 use Rattle.numbers.specs.Order.{absOf, maxOf}
 use Rattle.numbers.specs.Rounded.{_⊕_, _⊖_, _⊗_}
 use Rattle.regions.specs.declared.boxes.Bounds.{Bounds}
-
--- 10^-9
-abbrev pub billionth : Float
-billionth = ofBits binary64 0x3e11_2e0b_e826_d695
 
 -- the longer side of a box
 abbrev pub sideOf : Bounds → Float
@@ -21,7 +17,7 @@ sideOf b = maxOf (b .uhi ⊖ b .ulo) (b .vhi ⊖ b .vlo)
 
 -- "10^-9 of the largest box side"
 unfoldable pub slackOf : List Bounds → Float
-slackOf boxes = foldl (λ largest b. maxOf largest (sideOf b)) plusZero boxes ⊗ billionth
+slackOf boxes = foldl (λ largest b. maxOf largest (sideOf b)) plusZero boxes ⊗ 10^-9
 
 -- whether b encloses o within the slack
 unfoldable pub encloses : Float → Bounds → Bounds → Bool

@@ -5,6 +5,7 @@ use mathlib.Core.Bool.{false}
 use lib.ListN.{length}
 use mathlib.Core.List.{List, [], _∷_}
 use lib.Ieee.{Float, nan, inf, add, sub, mul, div, neg, lt, le, eq, ofBits, ofInt}
+use Rattle.numbers.specs.Constants.{10^-9}
 use Rattle.numbers.specs.Order.{absOf}
 use Rattle.numbers.specs.Round.{roundAway}
 use Rattle.numbers.specs.Rounded.{_⊕_, count}
@@ -13,7 +14,7 @@ use Rattle.loops.specs.Span.{leastOf, greatestOf, middleOf}
 use Rattle.regions.specs.declared.boxes.Bounds.{Bounds}
 use Rattle.regions.specs.declared.rephase.Branch.{Branch}
 use Rattle.regions.specs.Table.{boxesOf}
-use Rattle.regions.specs.Outer.{billionth, outerOf, slackOf, encloses, every, passing, enclosesOther, enclosesOthers, enclosingOne, lastLargest}
+use Rattle.regions.specs.Outer.{outerOf, slackOf, encloses, every, passing, enclosesOther, enclosesOthers, enclosingOne, lastLargest}
 use Rattle.regions.specs.ByOutermost.{enclosable, oneIfUnenclosable, endsAmong, unenclosableAmong, outermostOf, enclosesOutermost, enclosesOutermostAt, byOutermost}
 use Rattle.regions.specs.Rephase.{rephased, moved, shiftOf}
 
@@ -35,7 +36,7 @@ unfolding outerOf boxesOf leastOf greatestOf slackOf encloses every passing encl
 enclosing-square = refl
 
 -- it may fall short by 10^-9 of the largest side, here a little more than 1: the further end less that rounds to 1
-short-square : outerOf (boxesOf (squareU (count 1) ∷ (count 0 ∷ (count 1 ⊕ billionth) ∷ []) ∷ []) (squareV (count 1) ∷ (count 0 ∷ count 0 ∷ []) ∷ [])) (count 0 ∷ count 1 ∷ []) ≡ 0
+short-square : outerOf (boxesOf (squareU (count 1) ∷ (count 0 ∷ (count 1 ⊕ 10^-9) ∷ []) ∷ []) (squareV (count 1) ∷ (count 0 ∷ count 0 ∷ []) ∷ [])) (count 0 ∷ count 1 ∷ []) ≡ 0
 unfolding outerOf boxesOf leastOf greatestOf slackOf encloses every passing enclosesOther enclosesOthers enclosingOne lastLargest absOf add sub mul neg lt le ofBits ofInt
 short-square = refl
 

@@ -9,10 +9,11 @@ use borrow.Author.Tests.{lt-ltb, le-ltb}
 use lib.Ieee.{Float, nan, lt, le}
 use lib.ListN.{length, getD, take, drop, length-map, length-drop}
 use lib.Seq.{drop-cons}
+use Rattle.numbers.specs.Constants.{10^-12}
 use Rattle.numbers.specs.Rounded.{_⊕_, _⊖_}
 use Rattle.loops.specs.Span.{leastOf, greatestOf}
 use Rattle.lists.proofs.Elements.{getD-map, length-dropLast, dropLast-take}
-use Rattle.rings.specs.Choices.{slack, firstFrom, firstLeast, firstPast, firstOpenPast, beginsBackward, straddles, offset, nearest, stepStands, standsAtTheCut, serve, firstOf}
+use Rattle.rings.specs.Choices.{firstFrom, firstLeast, firstPast, firstOpenPast, beginsBackward, straddles, offset, nearest, stepStands, standsAtTheCut, serve, firstOf}
 
 -- ---- branches
 
@@ -26,11 +27,11 @@ module _ (us : List Float) where
   second-first h = sym (rw (lt-ltb 3 (length us) h))
 
   module _ (period lo : Float) (high : Float) (is-high : high ≡ greatestOf us) where
-    pub past-end : lt (lo ⊕ period ⊕ slack) high ≡ true → true ≡ straddles period lo us
+    pub past-end : lt (lo ⊕ period ⊕ 10^-12) high ≡ true → true ≡ straddles period lo us
     unfolding straddles
     past-end t = sym (rw (← is-high, t))
 
-    pub below-begin : lt (lo ⊕ period ⊕ slack) high ≡ false → (low : Float) → low ≡ leastOf us → lt low (lo ⊖ slack) ≡ straddles period lo us
+    pub below-begin : lt (lo ⊕ period ⊕ 10^-12) high ≡ false → (low : Float) → low ≡ leastOf us → lt low (lo ⊖ 10^-12) ≡ straddles period lo us
     unfolding straddles
     below-begin t low is-low = sym (rw (← is-high, t, ← is-low))
 

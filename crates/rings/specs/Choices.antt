@@ -5,21 +5,11 @@ use mathlib.Core.List.{List, [], _∷_, map, dropLast}
 use lib.Dec.{ltb}
 use lib.Ieee.{Float, nan, lt, le}
 use lib.ListN.{length, getD}
-use lib.Ieee.{binary64, ofBits}
+use Rattle.numbers.specs.Constants.{10^-12, 10^-9, 10^-6}
 use Rattle.numbers.specs.Order.{absOf, minOf, maxOf}
 use Rattle.numbers.specs.Round.{roundAway, floorOf}
 use Rattle.numbers.specs.Rounded.{_⊕_, _⊖_, _⊗_, _⊘_}
 use Rattle.loops.specs.Span.{leastOf, greatestOf}
-
--- 10^-12, 10^-9 and 10^-6: how far a hole may reach past the strip, below what step of u is constant, and how near the seam a point stands on it
-abbrev pub slack : Float
-slack = ofBits binary64 0x3d71_9799_812d_ea11
-
-abbrev pub constant : Float
-constant = ofBits binary64 0x3e11_2e0b_e826_d695
-
-abbrev pub near : Float
-near = ofBits binary64 0x3eb0_c6f7_a0b5_ed8d
 
 -- "the rings' least u", and the greatest
 unfoldable pub leastU : List Float → List Float → Float
@@ -60,7 +50,7 @@ module _ (period : Float) where
 
   -- whether a hole's "u reach more than 10^-12 below the rings' least u", lo, "or past that plus the period"
   unfoldable pub straddles : Float → List Float → Bool
-  straddles lo us = lt (lo ⊕ period ⊕ slack) (greatestOf us) || lt (leastOf us) (lo ⊖ slack)
+  straddles lo us = lt (lo ⊕ period ⊕ 10^-12) (greatestOf us) || lt (leastOf us) (lo ⊖ 10^-12)
 
   -- how far u lies from the cut in periods, whole ones left out
   abbrev pub offset : Float → Float → Float
@@ -70,12 +60,13 @@ module _ (period : Float) where
   unfoldable pub nearest : Float → List Float → ℕ
   nearest cut us = let offsets = map (offset cut) (dropLast us) in firstLeast offsets (length offsets)
 
+  -- within 10^-6 of the cut, or of the cut one period on, as face.rs has it
   abbrev pub onSeam : Float → Float → Bool
-  onSeam cut u = lt (absOf (u ⊖ cut)) near || lt (absOf (u ⊖ (cut ⊕ period))) near
+  onSeam cut u = lt (absOf (u ⊖ cut)) 10^-6 || lt (absOf (u ⊖ (cut ⊕ period))) 10^-6
 
-  -- "a constant-u step on the seam", from a to b
+  -- "a constant-u step on the seam", from a to b: below 10^-9 in size, as face.rs has it
   abbrev pub stepStands : Float → Float → Float → Bool
-  stepStands cut a b = lt (absOf (b ⊖ a)) constant && onSeam cut a
+  stepStands cut a b = lt (absOf (b ⊖ a)) 10^-9 && onSeam cut a
 
   unfoldable pub standsAtTheCut : Float → List Float → Bool
   standsAtTheCut cut [] = false

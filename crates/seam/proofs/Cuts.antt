@@ -22,13 +22,13 @@ unfolding spansOf endOf
 spans-ends [] = refl
 spans-ends (us ∷ holes) = ap (λ (l : List Span). spanOf us ∷ l) (spans-ends holes)
 
-even-lows : (lows highs : List Float) → length lows ≡ length highs → sortedLows lows highs ≡ lowsOf (sorted (spansOf lows highs))
+lows-sorted : (lows highs : List Float) → length lows ≡ length highs → sortedLows lows highs ≡ lowsOf (sorted (spansOf lows highs))
 unfolding sortedLows
-even-lows lows highs e = rw (eq-eqb (length lows) (length highs) e)
+lows-sorted lows highs e = rw (eq-eqb (length lows) (length highs) e)
 
-even-highs : (lows highs : List Float) → length lows ≡ length highs → sortedHighs lows highs ≡ highsOf (sorted (spansOf lows highs))
+highs-sorted : (lows highs : List Float) → length lows ≡ length highs → sortedHighs lows highs ≡ highsOf (sorted (spansOf lows highs))
 unfolding sortedHighs
-even-highs lows highs e = rw (eq-eqb (length lows) (length highs) e)
+highs-sorted lows highs e = rw (eq-eqb (length lows) (length highs) e)
 
 module _ (ns : List ℕ) (us : List Float) where
   abbrev holes : List (List Float)
@@ -49,13 +49,13 @@ module _ (ns : List ℕ) (us : List Float) where
       in-high : high₁ ≡ map (endOf true) holes
       in-high = ends true high high₁ n h
 
-      even : length low₁ ≡ length high₁
-      even = ap length in-low ∙ length-map holes (endOf false) ∙ sym (length-map holes (endOf true)) ∙ sym (ap length in-high)
+      as-long : length low₁ ≡ length high₁
+      as-long = ap length in-low ∙ length-map holes (endOf false) ∙ sym (length-map holes (endOf true)) ∙ sym (ap length in-high)
 
       both : spansOf low₁ high₁ ≡ map spanOf holes
       both = (λ j. spansOf (in-low j) (in-high j)) ∙ spans-ends holes
 
       all : spansOf low₂ high₂ ≡ sorted (map spanOf holes)
       all =
-          (λ j. spansOf ((p ∙ even-lows low₁ high₁ even) j) ((q ∙ even-highs low₁ high₁ even) j)) ∙ spans-back (sorted (spansOf low₁ high₁))
+          (λ j. spansOf ((p ∙ lows-sorted low₁ high₁ as-long) j) ((q ∙ highs-sorted low₁ high₁ as-long) j)) ∙ spans-back (sorted (spansOf low₁ high₁))
           ∙ ap sorted both

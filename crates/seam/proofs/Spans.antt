@@ -220,7 +220,7 @@ module _ (lows₀ highs₀ : List Float) where
   from i = take i spans ++ sorted (drop i spans)
 
   pub record Sorting (lows highs : List Float) (i : ℕ) : Type 0 where
-    pub even : length lows₀ ≡ length highs₀
+    pub as-long : length lows₀ ≡ length highs₀
     pub far : i ≤ length lows₀
     pub low-long : length lows ≡ length lows₀
     pub high-long : length highs ≡ length highs₀
@@ -229,7 +229,7 @@ module _ (lows₀ highs₀ : List Float) where
 
   pub sorting : length lows₀ ≡ length highs₀ → Sorting lows₀ highs₀ (length lows₀)
   sorting e = record {
-    even = e;
+    as-long = e;
     far = omega arith;
     low-long = refl;
     high-long = refl;
@@ -285,7 +285,7 @@ module _ (lows₀ highs₀ : List Float) where
       → lows′ ≡ onPart (begun unchanged 1) (i - 1) (i - 1 + 1 + k) lows → highs′ ≡ onPart (begun unchanged 1) (i - 1) (i - 1 + 1 + k) highs
       → length lows′ ≡ length lows → length highs′ ≡ length highs → Sorting lows′ highs′ (i - 1)
   sorting-turn lows highs lows′ highs′ i k s p k-is l m a b = record {
-    even = s .even;
+    as-long = s .as-long;
     far = omega arith;
     low-long = a ∙ s .low-long;
     high-long = b ∙ s .high-long;
@@ -294,7 +294,7 @@ module _ (lows₀ highs₀ : List Float) where
   }
     where
       within : i - 1 < length spans
-      within = let e = s .even in let f = s .far in let n = length-spans lows₀ highs₀ in omega arith
+      within = let e = s .as-long in let f = s .far in let n = length-spans lows₀ highs₀ in omega arith
 
       before : Sorting lows highs (i - 1 + 1)
       before = let e : i ≡ i - 1 + 1 = omega arith in subst (λ (n : ℕ). Sorting lows highs n) e s
@@ -303,7 +303,7 @@ module _ (lows₀ highs₀ : List Float) where
   unfolding sortedLows sortedHighs
   sorting-end lows highs i s h =
       let none : i ≡ 0 = omega arith in
-      let same = eq-eqb (length lows₀) (length highs₀) (s .even) in
+      let same = eq-eqb (length lows₀) (length highs₀) (s .as-long) in
       (s .is-lows ∙ rw (none, same), s .is-highs ∙ rw (none, same))
 
   pub not-sorted : (length lows₀ ≡ length highs₀ → ⊥) → (lows₀ ≡ sortedLows lows₀ highs₀) × (highs₀ ≡ sortedHighs lows₀ highs₀)

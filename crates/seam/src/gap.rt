@@ -95,7 +95,7 @@ fn below_after(s: &[f64], i: usize) -> usize
 }
 
 // The one at `from` behind all others before `to`.
-fn sink(s: &mut [f64], from: usize, to: usize)
+fn rotate_left(s: &mut [f64], from: usize, to: usize)
     requires { ⌜ (from ≤ to) × (to ≤ length (now s)) ⌝ }
     ensures { λ _. ⌜ now (s .exit) ≡ onPart (begun unchanged 1) from to (now (s .entry)) ⌝ }
 {
@@ -115,7 +115,7 @@ pub fn sort_spans(low: &mut [f64], high: &mut [f64])
     while 0 < i {
         i -= 1;
         let to = i + 1 + below_after(low, i);
-        sink(low, i, to);
-        sink(high, i, to);
+        rotate_left(low, i, to);
+        rotate_left(high, i, to);
     }
 }

@@ -1,7 +1,7 @@
 -- The parameter domain of a surface and its periods, as `Surface::domain` has them.
 use mathlib.Core.Bool.{Bool, true, false}
 use lib.Ieee.{Float, binary64, ofBits, neg, lt}
-use Rattle.numbers.specs.Constants.{plusZero, H, TAU}
+use Rattle.numbers.specs.Constants.{plusZero, H, TAU, 10^-12}
 use Rattle.numbers.specs.Rounded.{_⊘_}
 use Rattle.numbers.specs.Order.{absOf}
 use Rattle.numbers.specs.Trig.{tanOf}
@@ -15,10 +15,6 @@ use Rattle.surfaces.specs.declared.surface.Domain.{Domain}
 -- 1e12, for an end where there is none
 abbrev pub far : Float
 far = ofBits binary64 0x426d_1a94_a200_0000
-
--- 1e-12: a cone whose tangent is no larger has no apex
-abbrev pub flat : Float
-flat = ofBits binary64 0x3d71_9799_812d_ea11
 
 abbrev pub between : Float → Float → Interval
 between a b = record { lo = a; hi = b }
@@ -64,7 +60,7 @@ pick false a b = b
 unfoldable pub coneRange : Float → Float → Interval
 coneRange R t =
     let apex = neg R ⊘ t in
-    pick (lt flat (absOf t)) (pick (lt plusZero t) (between apex far) (between (neg far) apex)) unbounded
+    pick (lt 10^-12 (absOf t)) (pick (lt plusZero t) (between apex far) (between (neg far) apex)) unbounded
 
 abbrev pub vRange : Surface → Interval
 vRange Plane = unbounded

@@ -8,6 +8,7 @@ use mathlib.Core.List.{List, [], _∷_, _++_, dropLast}
 use lib.Dec.{leb}
 use lib.ListN.{length, getD, drop, set}
 use lib.Ieee.{Float, nan, binary64, ofBits, le, ne}
+use Rattle.numbers.specs.Constants.{10^-9}
 use Rattle.numbers.specs.Rounded.{_⊕_, _⊖_, _⊗_, _⊘_, count}
 use Rattle.numbers.specs.Order.{absOf}
 
@@ -24,12 +25,8 @@ divisionsFrom lo hi n i (suc k) = division lo hi n i ∷ divisionsFrom lo hi n (
 abbrev pub divisions : Float → Float → ℕ → List Float
 divisions lo hi n = divisionsFrom lo hi n 0 (suc n)
 
--- 1e-9
-abbrev pub nano : Float
-nano = ofBits binary64 0x3e11_2e0b_e826_d695
-
 unfoldable pub slackOf : Float → Float → Float
-slackOf lo hi = absOf (hi ⊖ lo) ⊗ nano
+slackOf lo hi = absOf (hi ⊖ lo) ⊗ 10^-9
 
 unfoldable pub near : Float → Float → Float → Bool
 near slack x last = le (absOf (x ⊖ last)) slack

@@ -2,7 +2,7 @@
 use Prim.Native.Nat.{ℕ, max}
 use mathlib.Core.Bool.{cond}
 use lib.Ieee.{Float, binary64, ofBits, neg, lt, toUnsigned}
-use Rattle.numbers.specs.Constants.{one}
+use Rattle.numbers.specs.Constants.{one, 10^-3}
 use Rattle.numbers.specs.Rounded.{_⊖_, _⊗_, _⊘_}
 use Rattle.numbers.specs.Order.{absOf, minOf, maxOf}
 use Rattle.numbers.specs.Round.{ceilOf}
@@ -11,10 +11,6 @@ use Rattle.surfaces.specs.declared.options.Resolved.{Resolved}
 
 abbrev pub two : Float
 two = ofBits binary64 0x4000_0000_0000_0000
-
--- 1e-3
-abbrev pub milli : Float
-milli = ofBits binary64 0x3f50_624d_d2f1_a9fc
 
 abbrev pub clampOf : Float → Float → Float → Float
 clampOf x lo hi = cond (lt x lo) lo (cond (lt hi x) hi x)
@@ -25,7 +21,7 @@ sagAngle o r = let angle = two ⊗ acosOf (clampOf (one ⊖ o .sag ⊘ r) (neg o
 
 -- within the sag and the angular limit, and no less than 1e-3
 unfoldable pub angleStepOf : Resolved → Float → Float
-angleStepOf o r = maxOf (minOf (sagAngle o (absOf r)) (o .angle)) milli
+angleStepOf o r = maxOf (minOf (sagAngle o (absOf r)) (o .angle)) 10^-3
 
 -- the whole number of steps that `total` takes, taken up; `toUnsigned 64` is Rust's `as usize`
 unfoldable pub segmentsOf : Resolved → Float → Float → ℕ

@@ -1,6 +1,7 @@
 -- How many steps `v_steps` and `direction_steps` of `face.rs` give.
 use Prim.Native.Nat.{ℕ, max}
 use lib.Ieee.{Float}
+use Rattle.numbers.specs.Constants.{10^-3}
 use Rattle.numbers.specs.Rounded.{_⊕_, _⊖_, _⊗_}
 use Rattle.numbers.specs.Order.{absOf, maxOf}
 use Rattle.numbers.specs.Trig.{sincosOf}
@@ -9,7 +10,7 @@ use Rattle.surfaces.specs.declared.steps.Axis.{Axis}
 use Rattle.surfaces.specs.declared.steps.Axis.the-variants.{U, «V»}
 use Rattle.surfaces.specs.declared.surface.Surface.{Surface}
 use Rattle.surfaces.specs.declared.surface.Surface.the-variants.{Plane, Cylinder, Cone, Sphere, Torus}
-use Rattle.surfaces.specs.Segments.{milli, segmentsOf}
+use Rattle.surfaces.specs.Segments.{segmentsOf}
 
 -- a wall is straight on a plane, cylinder and cone, and an arc of the radius or the minor radius on a sphere and a torus
 unfoldable pub vStepsOf : Surface → Float → Float → Resolved → ℕ
@@ -21,7 +22,7 @@ vStepsOf (Torus R r) from to o = segmentsOf o r (to ⊖ from)
 
 -- 01, "Whole surfaces": sphere and torus only. Nobody asks for the other kinds, whose answer is 1 here.
 abbrev pub aroundSteps : Surface → Float → Float → Resolved → ℕ
-aroundSteps (Sphere R) span v o = segmentsOf o (R ⊗ maxOf (absOf (sincosOf v .cos)) milli) span
+aroundSteps (Sphere R) span v o = segmentsOf o (R ⊗ maxOf (absOf (sincosOf v .cos)) 10^-3) span
 aroundSteps (Torus R r) span v o = segmentsOf o (R ⊕ absOf r) span
 aroundSteps Plane span v o = 1
 aroundSteps (Cylinder R) span v o = 1

@@ -95,12 +95,12 @@ half-up-is (fin true m e') f k t e = absurd (true≢false (k .value .0))
 half-up-is (fin false m e') f k t e =
     ap (λ (z : ℕ). round binary64 false z 1) (ap (λ (z : ℕ). (z + 1) / 2) (e ∙ cut-double (fin false m e') f k .0) ∙ half-more (m * up e') (down e') (down-pos e'))
 
-pub cut-down-is : (x : Float) → Small x → (t : ℕ) → t ≡ toUnsigned 64 x → ofInt binary64 (pos t) ≡ floorOf x
+pub floor-positive-is : (x : Float) → Small x → (t : ℕ) → t ≡ toUnsigned 64 x → ofInt binary64 (pos t) ≡ floorOf x
 unfolding floorOf ofInt
-cut-down-is nan k t e = absurd (k .value)
-cut-down-is (inf s) k t e = absurd (k .value)
-cut-down-is (fin true m e') k t e = absurd (true≢false (k .value .0))
-cut-down-is (fin false m e') k t e = ap (λ (z : ℕ). round binary64 false z 1) (e ∙ cut-small (fin false m e') k .0)
+floor-positive-is nan k t e = absurd (k .value)
+floor-positive-is (inf s) k t e = absurd (k .value)
+floor-positive-is (fin true m e') k t e = absurd (true≢false (k .value .0))
+floor-positive-is (fin false m e') k t e = ap (λ (z : ℕ). round binary64 false z 1) (e ∙ cut-small (fin false m e') k .0)
 
 up-more : (n d q : ℕ) → 0 < d → q ≡ n / d → q * d < n → q + 1 ≡ cutUp n d
 up-more n d q D e h =
@@ -120,22 +120,22 @@ back-value : (x : Float) → Small x → (t : ℕ) → t ≡ toUnsigned 64 x →
 unfolding ofInt
 back-value x k t e = let g = cut-small x k in let h : t ≡ num x / den x = e ∙ g .0 in round-whole binary64 false t (omega arith)
 
-pub cut-up-more : (x : Float) → Small x → (t : ℕ) (f : Float) → t ≡ toUnsigned 64 x → f ≡ ofInt binary64 (pos t) → lt f x ≡ true → ofInt binary64 (pos (t + 1)) ≡ ceilOf x
+pub ceil-positive-more : (x : Float) → Small x → (t : ℕ) (f : Float) → t ≡ toUnsigned 64 x → f ≡ ofInt binary64 (pos t) → lt f x ≡ true → ofInt binary64 (pos (t + 1)) ≡ ceilOf x
 unfolding ceilOf ofInt
-cut-up-more nan k t f e h l = absurd (k .value)
-cut-up-more (inf s) k t f e h l = absurd (k .value)
-cut-up-more (fin true m e') k t f e h l = absurd (true≢false (k .value .0))
-cut-up-more (fin false m e') k t f e h l =
+ceil-positive-more nan k t f e h l = absurd (k .value)
+ceil-positive-more (inf s) k t f e h l = absurd (k .value)
+ceil-positive-more (fin true m e') k t f e h l = absurd (true≢false (k .value .0))
+ceil-positive-more (fin false m e') k t f e h l =
     let v : HasValue f false t 1 = subst (λ (y : Float). HasValue y false t 1) (sym h) (back-value (fin false m e') k t e) in
     let lt' : t * down e' < m * up e' * 1 = lt-true f (fin false m e') t 1 (m * up e') (down e') (zero-lt-suc 0) (down-pos e') v (refl, refl) l in
     ap (λ (z : ℕ). round binary64 false z 1) (up-more (m * up e') (down e') t (down-pos e') (e ∙ cut-small (fin false m e') k .0) (omega arith))
 
-pub cut-up-same : (x : Float) → Small x → (t : ℕ) (f : Float) → t ≡ toUnsigned 64 x → f ≡ ofInt binary64 (pos t) → lt f x ≡ false → f ≡ ceilOf x
+pub ceil-positive-same : (x : Float) → Small x → (t : ℕ) (f : Float) → t ≡ toUnsigned 64 x → f ≡ ofInt binary64 (pos t) → lt f x ≡ false → f ≡ ceilOf x
 unfolding ceilOf ofInt
-cut-up-same nan k t f e h l = absurd (k .value)
-cut-up-same (inf s) k t f e h l = absurd (k .value)
-cut-up-same (fin true m e') k t f e h l = absurd (true≢false (k .value .0))
-cut-up-same (fin false m e') k t f e h l =
+ceil-positive-same nan k t f e h l = absurd (k .value)
+ceil-positive-same (inf s) k t f e h l = absurd (k .value)
+ceil-positive-same (fin true m e') k t f e h l = absurd (true≢false (k .value .0))
+ceil-positive-same (fin false m e') k t f e h l =
     let v : HasValue f false t 1 = subst (λ (y : Float). HasValue y false t 1) (sym h) (back-value (fin false m e') k t e) in
     let le' : m * up e' * 1 ≤ t * down e' = lt-false f (fin false m e') t 1 (m * up e') (down e') v (refl, refl) l in
     h ∙ ap (λ (z : ℕ). round binary64 false z 1) (up-same (m * up e') (down e') t (down-pos e') (e ∙ cut-small (fin false m e') k .0) (omega arith))

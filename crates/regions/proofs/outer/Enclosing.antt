@@ -6,7 +6,7 @@ use lib.Dec.{T}
 use lib.IntN.{negsuc}
 use lib.Ieee.{Float, inf, binary64, le, lt, fits, ofBits}
 use lib.Ieee.Fits.{and-i, and-l, and-r}
-use Rattle.numbers.specs.Constants.{plusZero}
+use Rattle.numbers.specs.Constants.{plusZero, 10^-9}
 use Rattle.numbers.specs.Order.{minOf, maxOf}
 use Rattle.numbers.specs.Rounded.{_⊕_, _⊖_}
 use Rattle.numbers.proofs.Signed.{number, le-numbers, le-top, le-bottom, le-trans-float, le-of-less, le-of-not-less, le-refl}
@@ -14,11 +14,11 @@ use Rattle.numbers.proofs.Monotone.{Zero, Positive}
 use Rattle.numbers.proofs.Zeros.{plus-zero-is}
 use Rattle.numbers.proofs.Infinities.{add-summand, add-mono-number, add-grows, top-plus, sub-summand, sub-mono-number, sub-falls, bottom-minus, mul-nonneg, le-max}
 use Rattle.regions.specs.declared.boxes.Bounds.{Bounds}
-use Rattle.regions.specs.Outer.{billionth, sideOf, slackOf, encloses}
+use Rattle.regions.specs.Outer.{sideOf, slackOf, encloses}
 use Rattle.regions.specs.ByOutermost.{emptyBox, hullOf, enclosable}
 
 -- ---- the slack is a number, and not negative
-billionth-positive : Positive billionth
+billionth-positive : Positive 10^-9
 unfolding ofBits
 billionth-positive = record { size = 0x1_12e0_be82_6d694; expo = negsuc 81; is = refl }
 
@@ -28,7 +28,7 @@ sides-nonneg (b ∷ bs) a h = sides-nonneg bs (maxOf a (sideOf b)) (le-max Zero 
 
 pub slack-nonneg : (boxes : List Bounds) → T (le Zero (slackOf boxes))
 unfolding slackOf
-slack-nonneg boxes = mul-nonneg _ billionth billionth-positive (sides-nonneg boxes plusZero (rw plus-zero-is (le-refl Zero tt)))
+slack-nonneg boxes = mul-nonneg _ 10^-9 billionth-positive (sides-nonneg boxes plusZero (rw plus-zero-is (le-refl Zero tt)))
 
 -- ---- a lower end held against the lesser of two, an upper one against the greater
 module _ (slack a b x : Float) where

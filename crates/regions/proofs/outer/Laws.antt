@@ -10,13 +10,13 @@ use lib.Dec.{ltb}
 use lib.ListN.{length, getD}
 use lib.Ieee.{Float, nan, lt}
 use borrow.Author.Tests.{lt-ltb, le-ltb}
-use Rattle.numbers.specs.Constants.{plusZero}
+use Rattle.numbers.specs.Constants.{plusZero, 10^-9}
 use Rattle.numbers.specs.Order.{absOf, maxOf}
 use Rattle.numbers.specs.Rounded.{_⊗_}
 use Rattle.lists.proofs.Folds.{Folding, folding, folding-turn, folding-end}
 use Rattle.regions.specs.declared.boxes.Bounds.{Bounds}
 use Rattle.regions.specs.declared.outer.Outermost.{Outermost}
-use Rattle.regions.specs.Outer.{billionth, sideOf, slackOf, nowhere, boxAt, passing, theOne, lastLargest}
+use Rattle.regions.specs.Outer.{sideOf, slackOf, nowhere, boxAt, passing, theOne, lastLargest}
 use Rattle.regions.specs.ByOutermost.{emptyBox, hullOf, enclosable, oneIfUnenclosable, endsAmong, unenclosableAmong, outermostOf, enclosesOutermost, enclosesOutermostAt}
 
 -- ---- the largest side
@@ -36,9 +36,9 @@ module _ (boxes : List Bounds) where
       let a = k .all in
       record { all = a; fold = folding-turn larger plusZero boxes nowhere largest y i (k .fold) (omega arith) (q ∙ ap (maxOf largest) (e ∙ ap sideOf p)) }
 
-  pub sides-end : (n : ℕ) (largest : Float) (i : ℕ) → Sides n largest i → n ≤ i → largest ⊗ billionth ≡ slackOf boxes
+  pub sides-end : (n : ℕ) (largest : Float) (i : ℕ) → Sides n largest i → n ≤ i → largest ⊗ 10^-9 ≡ slackOf boxes
   unfolding slackOf
-  sides-end n largest i k h = let a = k .all in ap (λ (x : Float). x ⊗ billionth) (folding-end larger plusZero boxes largest i (k .fold) (omega arith))
+  sides-end n largest i k h = let a = k .all in ap (λ (x : Float). x ⊗ 10^-9) (folding-end larger plusZero boxes largest i (k .fold) (omega arith))
 
 -- ---- the outermost ends, and how many boxes are not enclosable
 module _ (slack : Float) (boxes : List Bounds) where

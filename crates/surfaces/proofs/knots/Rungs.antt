@@ -12,12 +12,12 @@ use lib.Seq.{sets, getD-drop}
 use lib.Ieee.{Float, nan, fin, binary64, mul, le, eq, ne, fits, ofBits}
 use lib.Ieee.Scale.{finite}
 use Rattle.lists.proofs.Stores.{sets-at}
-use Rattle.numbers.specs.Constants.{plusZero}
+use Rattle.numbers.specs.Constants.{plusZero, 10^-9}
 use Rattle.numbers.specs.Order.{absOf}
 use Rattle.numbers.specs.Rounded.{_⊕_, _⊖_, _⊗_, count}
 use Rattle.numbers.proofs.Monotone.{ofInt-positive}
 use Rattle.numbers.proofs.Zeros.{nil, plus-zero-is, none-of, plus-none, plus-zero, no-width, minus-self, minus-negative-zero, as-one-eq}
-use Rattle.surfaces.specs.Rungs.{division, divisionsFrom, slackOf, nano, near, keptAfter, keptDivisions, endedOn, rungs, EndsOn, EndWritten, inner}
+use Rattle.surfaces.specs.Rungs.{division, divisionsFrom, slackOf, near, keptAfter, keptDivisions, endedOn, rungs, EndsOn, EndWritten, inner}
 use Rattle.surfaces.proofs.knots.Ended.{ended-is, inner-ended, length-ended, last-added, each-front, each-ended}
 use Rattle.surfaces.proofs.knots.Inner.{inner-length}
 use Rattle.surfaces.proofs.knots.Kept.{Kept, Covers, kept-step, kept-after, kept-few, kept-each, kept-apart, kept-cover, kept-last}
@@ -221,7 +221,7 @@ pub rungs-of-none : (lo hi : Float) → rungs lo hi 0 ≡ cond (ne lo hi) (divis
 unfolding rungs endedOn keptDivisions divisionsFrom keptAfter
 rungs-of-none lo hi = refl
 
-least : le (absOf (nil false)) (absOf (nil false) ⊗ nano) ≡ true
+least : le (absOf (nil false)) (absOf (nil false) ⊗ 10^-9) ≡ true
 unfolding le absOf mul ofBits
 least = refl
 
@@ -236,7 +236,7 @@ module _ (lo : Float) (n : ℕ) (held : T (fits binary64 lo)) (lower : T (finite
 
   near-itself : (x : Float) → T (finite x) → near (slackOf lo lo) x x ≡ true
   unfolding near slackOf
-  near-itself x h = ap (λ (z : Float). le (absOf z) (absOf (lo ⊖ lo) ⊗ nano)) (minus-self x h) ∙ ap (λ (z : Float). le (absOf (nil false)) (absOf z ⊗ nano)) (minus-self lo lower) ∙ least
+  near-itself x h = ap (λ (z : Float). le (absOf z) (absOf (lo ⊖ lo) ⊗ 10^-9)) (minus-self x h) ∙ ap (λ (z : Float). le (absOf (nil false)) (absOf z ⊗ 10^-9)) (minus-self lo lower) ∙ least
 
   none-after : (i k : ℕ) → i + k ≤ suc (2 ^ 53) → keptAfter (slackOf lo lo) (lo ⊕ plusZero) (divisionsFrom lo lo n i k) ≡ []
   unfolding keptAfter divisionsFrom

@@ -3,13 +3,13 @@ use mathlib.Core.Path.{_≡_, _∙_}
 use Prim.Native.Nat.{ℕ, max}
 use mathlib.Core.Bool.{true, false}
 use lib.Ieee.{Float, neg, lt, toUnsigned}
-use Rattle.numbers.specs.Constants.{one}
+use Rattle.numbers.specs.Constants.{one, 10^-3}
 use Rattle.numbers.specs.Rounded.{_⊖_, _⊗_, _⊘_}
 use Rattle.numbers.specs.Order.{absOf, minOf, maxOf}
 use Rattle.numbers.specs.Round.{ceilOf}
 use Rattle.numbers.specs.Trig.{acosOf}
 use Rattle.surfaces.specs.declared.options.Resolved.{Resolved}
-use Rattle.surfaces.specs.Segments.{two, milli, clampOf, sagAngle, angleStepOf, segmentsOf}
+use Rattle.surfaces.specs.Segments.{two, clampOf, sagAngle, angleStepOf, segmentsOf}
 
 module _ (o : Resolved) (r : Float) where
   pub by-sag : {c a : Float} → lt (o .sag) r ≡ true → c ≡ clampOf (one ⊖ o .sag ⊘ r) (neg one) one → a ≡ acosOf c → two ⊗ a ≡ sagAngle o r
@@ -20,7 +20,7 @@ module _ (o : Resolved) (r : Float) where
   unfolding sagAngle
   by-angle h = rw h
 
-  pub step-law : {s a m w : Float} → s ≡ absOf r → a ≡ sagAngle o s → m ≡ minOf a (o .angle) → w ≡ maxOf m milli → w ≡ angleStepOf o r
+  pub step-law : {s a m w : Float} → s ≡ absOf r → a ≡ sagAngle o s → m ≡ minOf a (o .angle) → w ≡ maxOf m 10^-3 → w ≡ angleStepOf o r
   unfolding angleStepOf
   step-law e1 e2 e3 e4 = e4 ∙ rw (e3, e2, e1)
 

@@ -2,13 +2,14 @@
 use mathlib.Core.Path.{_≡_, sym, ap, _∙_}
 use Prim.Native.Nat.{ℕ}
 use lib.Ieee.{Float}
+use Rattle.numbers.specs.Constants.{10^-3}
 use Rattle.numbers.specs.Rounded.{_⊕_, _⊗_}
 use Rattle.numbers.specs.Order.{absOf, maxOf}
 use Rattle.numbers.specs.Trig.{sincosOf}
 use Rattle.surfaces.specs.declared.options.Resolved.{Resolved}
 use Rattle.surfaces.specs.declared.surface.Surface.{Surface}
 use Rattle.surfaces.specs.declared.surface.Surface.the-variants.{Sphere}
-use Rattle.surfaces.specs.Segments.{milli, segmentsOf}
+use Rattle.surfaces.specs.Segments.{segmentsOf}
 use Rattle.surfaces.specs.Steps.{vStepsOf, aroundSteps, alongSteps, directionStepsOf}
 use Rattle.surfaces.specs.declared.steps.Axis.{Axis}
 
@@ -25,7 +26,7 @@ module _ {s k : Surface} {n : ℕ} (kind : s ≡ k) where
 pub direction : {a b : Axis} {n : ℕ} → a ≡ b → (s : Surface) (lo hi other : Float) (o : Resolved) → n ≡ directionStepsOf s b lo hi other o → n ≡ directionStepsOf s a lo hi other o
 direction e s lo hi other o h = h ∙ ap (λ (z : Axis). directionStepsOf s z lo hi other o) (sym e)
 
-pub sphere-around : (R span v : Float) (o : Resolved) {x w m : Float} {n : ℕ} → x ≡ sincosOf v .cos → w ≡ absOf x → m ≡ maxOf w milli → n ≡ segmentsOf o (R ⊗ m) span
+pub sphere-around : (R span v : Float) (o : Resolved) {x w m : Float} {n : ℕ} → x ≡ sincosOf v .cos → w ≡ absOf x → m ≡ maxOf w 10^-3 → n ≡ segmentsOf o (R ⊗ m) span
     → n ≡ aroundSteps (Sphere R) span v o
 sphere-around R span v o e1 e2 e3 e4 = e4 ∙ rw (e3, e2, e1)
 

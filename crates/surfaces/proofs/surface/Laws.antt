@@ -2,7 +2,7 @@
 use mathlib.Core.Path.{_≡_, sym, ap, _∙_}
 use mathlib.Core.Bool.{true, false}
 use lib.Ieee.{Float, neg, lt}
-use Rattle.numbers.specs.Constants.{plusZero}
+use Rattle.numbers.specs.Constants.{plusZero, 10^-12}
 use Rattle.numbers.specs.Rounded.{_⊕_, _⊗_, _⊘_}
 use Rattle.numbers.specs.Order.{absOf}
 use Rattle.numbers.specs.Trig.{sincosOf, tanOf}
@@ -15,7 +15,7 @@ use Rattle.numbers.specs.declared.trig.SinCos.{SinCos}
 use Rattle.surfaces.specs.declared.surface.Surface.{Surface}
 use Rattle.surfaces.specs.declared.surface.Surface.the-variants.{Cone}
 use Rattle.surfaces.specs.Points.{planeOf, raisedOf, sphereOf, torusOf, pointOf}
-use Rattle.surfaces.specs.Domains.{flat, far, between, unbounded, coneRange}
+use Rattle.surfaces.specs.Domains.{far, between, unbounded, coneRange}
 
 -- ---- points
 pub plane-law : (f : Frame) (u v : Float) {y p q s w : Vec3} → y ≡ yOf f → p ≡ timesOf (f .reference) u → q ≡ plusOf (f .origin) p → s ≡ timesOf y v → w ≡ plusOf q s
@@ -45,14 +45,14 @@ cone-law f R a u v e h = cc
 
 -- ---- the range of a cone
 module _ (R t : Float) {a : Float} (size : a ≡ absOf t) where
-  pub opens-up : lt flat a ≡ true → lt plusZero t ≡ true → between (neg R ⊘ t) far ≡ coneRange R t
+  pub opens-up : lt 10^-12 a ≡ true → lt plusZero t ≡ true → between (neg R ⊘ t) far ≡ coneRange R t
   unfolding coneRange
   opens-up h k = rw (← size, h, k)
 
-  pub opens-down : lt flat a ≡ true → lt plusZero t ≡ false → between (neg far) (neg R ⊘ t) ≡ coneRange R t
+  pub opens-down : lt 10^-12 a ≡ true → lt plusZero t ≡ false → between (neg far) (neg R ⊘ t) ≡ coneRange R t
   unfolding coneRange
   opens-down h k = rw (← size, h, k)
 
-  pub opens-not : {r : Interval} → lt flat a ≡ false → r ≡ unbounded → r ≡ coneRange R t
+  pub opens-not : {r : Interval} → lt 10^-12 a ≡ false → r ≡ unbounded → r ≡ coneRange R t
   unfolding coneRange
   opens-not h e = e ∙ rw (← size, h)

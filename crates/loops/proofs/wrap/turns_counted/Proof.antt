@@ -14,13 +14,13 @@ abs-requires c κs = search needs
 abs-requires-2 : tie.Need-abs-requires-2
 abs-requires-2 c κs = search needs
 
-saturated-requires : tie.Need-saturated-requires
-saturated-requires c κs = search needs
+as-i32-requires : tie.Need-as-i32-requires
+as-i32-requires c κs = search needs
 
 returns : tie.Need-returns
 returns c =
     let at = c .before .before .before in
-    toZ-ofZ (sfits-of (c .saturated .ok)) ∙ c .saturated .ensures ∙ counted _ _ _ _ (at .before .before .round .ensures) (at .before .abs .ensures) (at .if1 .taken) (c .before .before .abs2 .ensures) (c .before .if2 .taken)
+    toZ-ofZ (sfits-of (c .as-i32 .ok)) ∙ c .as-i32 .ensures ∙ counted _ _ _ _ (at .before .before .round .ensures) (at .before .abs .ensures) (at .if1 .taken) (c .before .before .abs2 .ensures) (c .before .if2 .taken)
 
 returns-2 : tie.Need-returns-2
 returns-2 c = too-far-off _ _ _ (c .before .before .before .before .round .ensures) (c .before .abs2 .ensures) (c .if2 .left)
@@ -35,7 +35,7 @@ turns-counted-spec =
     round-requires
     abs-requires
     abs-requires-2
-    saturated-requires
+    as-i32-requires
     returns
     returns-2
     returns-3)

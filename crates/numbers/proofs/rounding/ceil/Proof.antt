@@ -11,20 +11,20 @@ use Rattle.numbers.proofs.rounding.ceil.Tie as tie
 held : (c : tie.Start) → T (fits binary64 (c .args .x))
 held c = subst T (sym (c .good .0 .1)) tt
 
-cut-up-requires : tie.Need-cut-up-requires
-cut-up-requires c κs = reals.above (c .before .args .x) (c .if1 .taken)
+ceil-positive-requires : tie.Need-ceil-positive-requires
+ceil-positive-requires c κs = reals.above (c .before .args .x) (c .if1 .taken)
 
-cut-down-requires : tie.Need-cut-down-requires
-cut-down-requires c κs = reals.neg-above (c .before .before .args .x) (c .if2 .taken)
+floor-positive-requires : tie.Need-floor-positive-requires
+floor-positive-requires c κs = reals.neg-above (c .before .before .args .x) (c .if2 .taken)
 
 returns : tie.Need-returns
 returns c = search needs
 
 returns-2 : tie.Need-returns-2
-returns-2 c = ap neg (c .cut-down .ensures) ∙ laws.neg-floor (c .before .before .before .args .x)
+returns-2 c = ap neg (c .floor-positive .ensures) ∙ laws.neg-floor (c .before .before .before .args .x)
 
 returns-3 : tie.Need-returns-3
 returns-3 c = sym (laws.still (c .before .before .args .x) (held (c .before .before)) (c .before .if1 .left) (c .if2 .left) .2)
 
 pub ceil-spec : {M : Type 1} → statement M
-ceil-spec = tie.close (tie.spec cut-up-requires cut-down-requires returns returns-2 returns-3)
+ceil-spec = tie.close (tie.spec ceil-positive-requires floor-positive-requires returns returns-2 returns-3)

@@ -30,17 +30,17 @@ below-after-requires c κs = search needs
 add-to-2 : tie.Need-add-to-2 Inv-loop μ-loop
 add-to-2 c = omega arith
 
-sink-requires : tie.Need-sink-requires Inv-loop μ-loop
-sink-requires c κs = search needs
+rotate-left-requires : tie.Need-rotate-left-requires Inv-loop μ-loop
+rotate-left-requires c κs = search needs
 
-sink-requires-2 : tie.Need-sink-requires-2 Inv-loop μ-loop
-sink-requires-2 c κs = search needs
+rotate-left-requires-2 : tie.Need-rotate-left-requires-2 Inv-loop μ-loop
+rotate-left-requires-2 c κs = search needs
 
 loop-less : tie.Need-loop-less Inv-loop μ-loop
 loop-less c = omega arith
 
 loop-again : tie.Need-loop-again Inv-loop μ-loop
-loop-again c = sorting-turn _ _ _ _ _ _ _ _ (c .before .before .before .before .before .before .before .before .before .before .before .loop .inv) (c .before .before .before .before .before .before .before .before .before .before .loop-test .taken) (c .before .before .before .before .before .before .before .before .below-after .ensures .0) (c .before .before .before .before .before .before .sink .ensures) (c .before .before .sink2 .ensures) (c .before .before .before .before .before .low .given) (c .before .high .given)
+loop-again c = sorting-turn _ _ _ _ _ _ _ _ (c .before .before .before .before .before .before .before .before .before .before .before .loop .inv) (c .before .before .before .before .before .before .before .before .before .before .loop-test .taken) (c .before .before .before .before .before .before .before .before .below-after .ensures .0) (c .before .before .before .before .before .before .rotate-left .ensures) (c .before .before .rotate-left2 .ensures) (c .before .before .before .before .before .low .given) (c .before .high .given)
 
 same-length : tie.Need-same-length Inv-loop μ-loop
 same-length c = c .before .loop .inv .low-long
@@ -63,8 +63,8 @@ sort-spans-spec =
     add-to
     below-after-requires
     add-to-2
-    sink-requires
-    sink-requires-2
+    rotate-left-requires
+    rotate-left-requires-2
     loop-less
     loop-again
     same-length

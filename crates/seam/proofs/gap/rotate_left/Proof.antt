@@ -1,8 +1,8 @@
 use Rattle.lists.proofs.Parts.{part-is}
 use Rattle.loops.specs.Rings.{begun, unchanged}
 use borrow.Author.Needs.{needs}
-use Rattle.seam.proofs.gap.sink.Statement.{statement}
-use Rattle.seam.proofs.gap.sink.Tie as tie
+use Rattle.seam.proofs.gap.rotate_left.Statement.{statement}
+use Rattle.seam.proofs.gap.rotate_left.Tie as tie
 
 mul-begin : tie.Need-mul-begin
 mul-begin c = search needs
@@ -25,8 +25,8 @@ same-length c = search needs
 returns : tie.Need-returns
 returns c = part-is (begun unchanged 1) (c .before .before .before .before .before .args .from) (c .before .before .before .before .before .args .to) (c .before .before .before .before .before .args .s .now) _ (c .before .before .begin .ensures)
 
-pub sink-spec : {M : Type 1} → statement M
-sink-spec =
+pub rotate-left-spec : {M : Type 1} → statement M
+rotate-left-spec =
     tie.close
     (tie.spec
     mul-begin

@@ -4,8 +4,8 @@ use lib.Dec.{T}
 use lib.Ieee.{binary64, fits}
 use borrow.Author.Needs.{needs}
 use Rattle.numbers.proofs.rounding.Laws as laws
-use Rattle.numbers.proofs.rounding.cut_up.Statement.{statement}
-use Rattle.numbers.proofs.rounding.cut_up.Tie as tie
+use Rattle.numbers.proofs.rounding.ceil_positive.Statement.{statement}
+use Rattle.numbers.proofs.rounding.ceil_positive.Tie as tie
 
 -- what owning an `f64` tells: the format holds it
 held : (c : tie.Start) → T (fits binary64 (c .args .x))
@@ -34,18 +34,18 @@ returns c =
     let t = c .before .before .before .truncating-f64-to-u64 in
     let f = c .before .before .nearest-u64-to-f64 in
     c .nearest-u64-to-f642 .ensures
-    ∙ laws.cut-up-more (c .before .before .before .before .before .args .x) (at (c .before .before .before .before)) (t .result) (f .result) (t .ensures) (f .ensures) (c .before .if2 .taken)
+    ∙ laws.ceil-positive-more (c .before .before .before .before .before .args .x) (at (c .before .before .before .before)) (t .result) (f .result) (t .ensures) (f .ensures) (c .before .if2 .taken)
 
 returns-2 : tie.Need-returns-2
 returns-2 c =
     let t = c .before .before .truncating-f64-to-u64 in
     let f = c .before .nearest-u64-to-f64 in
-    laws.cut-up-same (c .before .before .before .before .args .x) (at (c .before .before .before)) (t .result) (f .result) (t .ensures) (f .ensures) (c .if2 .left)
+    laws.ceil-positive-same (c .before .before .before .before .args .x) (at (c .before .before .before)) (t .result) (f .result) (t .ensures) (f .ensures) (c .if2 .left)
 
 returns-3 : tie.Need-returns-3
 returns-3 c = sym (laws.big (c .before .args .x) (held (c .before)) (c .before .pre) (c .if1 .left) .2)
 
-pub cut-up-spec : {M : Type 1} → statement M
-cut-up-spec =
+pub ceil-positive-spec : {M : Type 1} → statement M
+ceil-positive-spec =
     tie.close
     (tie.spec truncating-f64-to-u64-requires nearest-u64-to-f64-requires add-nearest-u64-to-f64 nearest-u64-to-f64-requires-2 returns returns-2 returns-3)

@@ -4,9 +4,9 @@ use lib.Ieee.{toSigned}
 use mir.Syntax.{w64}
 use mir.Val.{toZ, ofZ}
 use mir.Facts.{toZ-ofZ}
-use Rattle.loops.proofs.wrap.Laws.{in-long, same-cut, low-end, high-end, no-number, cut-fits}
-use Rattle.loops.proofs.wrap.saturated.Statement.{statement}
-use Rattle.loops.proofs.wrap.saturated.Tie as tie
+use Rattle.numbers.proofs.rounding.CastSigned.{in-long, same-cut, low-end, high-end, no-number, cut-fits}
+use Rattle.numbers.proofs.rounding.as_i32.Statement.{statement}
+use Rattle.numbers.proofs.rounding.as_i32.Tie as tie
 
 truncating-f64-to-i64-requires : tie.Need-truncating-f64-to-i64-requires
 truncating-f64-to-i64-requires c κs = in-long _ (c .before .if1 .taken) (c .if2 .taken)
@@ -30,7 +30,7 @@ returns-3 c = high-end _ (c .before .if1 .left) (c .if3 .taken)
 returns-4 : tie.Need-returns-4
 returns-4 c = no-number _ (c .before .if1 .left) (c .if3 .left)
 
-pub saturated-spec : {M : Type 1} → statement M
-saturated-spec =
+pub as-i32-spec : {M : Type 1} → statement M
+as-i32-spec =
     tie.close
     (tie.spec truncating-f64-to-i64-requires cast-result returns returns-2 returns-3 returns-4)
