@@ -2,13 +2,10 @@
 // are dropped.
 ghost use mathlib.Core.Path.{_≡_};
 ghost use mathlib.Core.List.{_++_, reverse};
-ghost use lib.Ieee.{Float};
 ghost use lib.ListN.{length, getD, take};
-ghost use Rattle.numbers.specs.declared.math.Vec3.{Vec3};
-ghost use Rattle.tables.specs.Corners.{Corners};
 ghost use Rattle.tables.specs.Rows.{rows, cornerOf, none};
 ghost use Rattle.strip.specs.Corners.{atU, farSide, stripWith};
-ghost use Rattle.strip.specs.Count.{capped};
+ghost use Rattle.strip.specs.Count.{capped, stripCount};
 use super::count::strip_count;
 use slices::shorter;
 use tables::corners::Corner;
@@ -27,7 +24,7 @@ pub fn first_rows(t: &[f64], n: usize) -> &[f64]
 // How many corners the strip has before its repeats are dropped, with `inner` of them in each wall;
 // usize::MAX where there are more.
 pub fn strip_rows(lower: &[f64], upper: &[f64], inner: usize) -> usize
-    ensures { λ r. ⌜ ((period : Float) (wall : Corners Vec3) → length wall ≡ inner → r ≡ capped (length (stripWith period (rows (now (lower .entry))) (rows (now (upper .entry))) wall))) ⌝ }
+    ensures { λ r. ⌜ r ≡ capped (stripCount (length (rows (now (lower .entry)))) (length (rows (now (upper .entry)))) inner) ⌝ }
 {
     let n = count(lower);
     let m = count(upper);

@@ -26,9 +26,10 @@ use Rattle.bands.specs.Columns.{heightsOn, settingOf}
 use Rattle.bands.specs.Strip.{Setting, strip, wall}
 use Rattle.strip.specs.Closing.{closedAs, sameCorner, bandBetween, closingOf, closedInto}
 use Rattle.strip.specs.Corners.{sameAt, atU, farSide, rowOn, heightsBetween, wallBetween, stripWith}
-use Rattle.strip.specs.Count.{capped}
+use Rattle.strip.specs.Count.{capped, stripCount}
 use Rattle.strip.specs.declared.closing.Closing.{Closing}
 use Rattle.strip.specs.declared.closing.Closing.the-variants.{Closed, TooMany}
+use Rattle.strip.proofs.corners.Laws.{length-strip}
 use Rattle.strip.proofs.repeats.Laws.{successive-fewer}
 
 -- ---- the front of what the first pass leaves
@@ -151,14 +152,14 @@ module _ (frame : Frame) (surface : Surface) (options : Resolved) (period : Floa
     -- what the code has counted before it tests the room
     pub record Measured (inner n : ℕ) : Type 0 where
       pub inner-is : inner ≡ length (heightsBetween surface options lower upper)
-      pub count-is : (p : Float) (w : Corners Vec3) → length w ≡ inner → n ≡ capped (length (stripWith p lower upper w))
+      pub count-is : n ≡ capped (stripCount (length lower) (length upper) inner)
 
     module _ (inner n : ℕ) (c : Measured inner n) where
       wall-count : length W ≡ inner
       wall-count = length-map (heightsBetween surface options lower upper) (rowOn frame surface (getD lower 0 none .u)) ∙ sym (c .inner-is)
 
       laid-count : n ≡ capped (length laid)
-      laid-count = c .count-is period W wall-count
+      laid-count = c .count-is ∙ ap (λ (k : ℕ). capped (stripCount (length lower) (length upper) k)) (sym wall-count) ∙ ap capped (sym (length-strip period lower upper W))
 
       module _ (a b room : ℕ) (wall₀ old : Corners Vec3) (a-is : a ≡ length wall₀) (b-is : (b ≡ length old) × (5 * b < 2 ^ 64)) (room-is : room ≡ min (2 * a) b) where
         abbrev lent : ℕ

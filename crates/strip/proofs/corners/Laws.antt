@@ -4,6 +4,7 @@ use mathlib.Core.Path.{_≡_, refl, sym, ap, _∙_}
 use mathlib.Core.List.{List, [], _∷_, _++_, append-nil, map, reverse}
 use native.Mathlib.Decide.{decLe}
 use native.Mathlib.Omega.{arith}
+use borrow.Author.Tests.{eq-eqb, ne-eqb}
 use lib.Ieee.{Float}
 use lib.ListN.{length, getD, take, drop, length-append, length-reverse, length-map, List·getD-append, List·getD-eq-default}
 use lib.Seq.{getD-append-add, take-all}
@@ -14,7 +15,7 @@ use Rattle.tables.specs.Corners.{Corner, Corners}
 use Rattle.tables.specs.Rows.{rows, none}
 use Rattle.tables.proofs.Rows.{rows-take}
 use Rattle.strip.specs.Corners.{atU, farSide, stripWith}
-use Rattle.strip.specs.Count.{capped, countOf}
+use Rattle.strip.specs.Count.{capped, countOf, stripCount}
 
 least : (n a : ℕ) (r : Corners Vec3) → a ≡ length r → take (min a n) r ≡ take n r
 least n a r e = by-room (decLe n a)
@@ -146,25 +147,29 @@ module _ (period : Float) (lower upper wall : Corners Vec3) (i n : ℕ) (r : Cor
 
 -- ---- how many they are
 
-module _ (lower upper : Corners Vec3) (n m some inner : ℕ) (count-lower : n ≡ length lower) (count-upper : m ≡ length upper) (both : some ≡ min n m) where
-  pub count-none : 5 * n < 2 ^ 64 → 5 * m < 2 ^ 64 → some ≡ 0
-      → (period : Float) (wall : Corners Vec3) → length wall ≡ inner → n + m ≡ capped (length (stripWith period lower upper wall))
-  count-none a b e period wall h =
-      let c : length (stripWith period lower upper wall) ≡ length lower + length (reverse upper) =
-      ap length (strip-none period lower upper wall (omega arith)) ∙ length-append lower (reverse upper) in
-      let d = length-reverse upper in
-      omega arith
+-- n and m are the counts that the code has in hand, of l and u corners
+module _ (l u n m some inner : ℕ) (n-is : n ≡ l) (m-is : m ≡ u) (both : some ≡ min n m) where
+  pub count-none : 5 * n < 2 ^ 64 → 5 * m < 2 ^ 64 → some ≡ 0 → n + m ≡ capped (stripCount l u inner)
+  unfolding stripCount
+  count-none a b e = let none-there : min l u ≡ 0 = omega arith in rw (eq-eqb (min l u) 0 none-there) (omega arith)
 
-  pub count-some : (r : ℕ) → (some ≡ 0 → ⊥) → r ≡ capped (countOf n m inner)
-      → (period : Float) (wall : Corners Vec3) → length wall ≡ inner → r ≡ capped (length (stripWith period lower upper wall))
-  count-some r there e period wall h =
-      let a : 0 < length lower = omega arith in
-      let b : 0 < length upper = omega arith in
-      let end = getD lower 0 none .u ⊕ period in
-      let c = ap length (strip-some period lower upper wall a b) ∙ length-append lower (behind period lower upper wall) in
-      let d = length-append (map (atU end) wall) (atU end (getD upper 0 none) ∷ (reverse upper ++ reverse wall)) in
-      let f = length-map wall (atU end) in
-      let g = length-append (reverse upper) (reverse wall) in
-      let p = length-reverse upper in
-      let q = length-reverse wall in
-      omega arith
+  pub count-some : (r : ℕ) → (some ≡ 0 → ⊥) → r ≡ capped (countOf n m inner) → r ≡ capped (stripCount l u inner)
+  unfolding stripCount
+  count-some r there e =
+      let some-there : min l u ≡ 0 → ⊥ = λ h. there (omega arith) in
+      rw (ne-eqb (min l u) 0 some-there) (omega arith)
+
+pub length-strip : (period : Float) (lower upper wall : Corners Vec3) → length (stripWith period lower upper wall) ≡ stripCount (length lower) (length upper) (length wall)
+unfolding stripWith stripCount
+length-strip period [] upper wall = length-reverse upper ∙ sym (rw (eq-eqb (min 0 (length upper)) 0 (omega arith)) (omega arith))
+length-strip period (l ∷ lower) [] wall = sym (rw (eq-eqb (min (length (l ∷ lower)) 0) 0 (omega arith)) (omega arith))
+length-strip period (l ∷ lower) (u ∷ upper) wall =
+    let end = l .u ⊕ period in
+    let some-there : min (length (l ∷ lower)) (length (u ∷ upper)) ≡ 0 → ⊥ = λ h. omega arith in
+    let a = length-append (l ∷ lower) (atU end l ∷ farSide end (u ∷ upper) wall) in
+    let b = length-append (map (atU end) wall) (atU end u ∷ (reverse (u ∷ upper) ++ reverse wall)) in
+    let c = length-map wall (atU end) in
+    let d = length-append (reverse (u ∷ upper)) (reverse wall) in
+    let e = length-reverse (u ∷ upper) in
+    let f = length-reverse wall in
+    rw (ne-eqb (min (length (l ∷ lower)) (length (u ∷ upper))) 0 some-there) (omega arith)

@@ -16,7 +16,9 @@ add-result : tie.Need-add-result
 add-result c = search needs
 
 returns : tie.Need-returns
-returns c = laws.count-none _ _ _ _ _ _ (c .before .before .before .count .ensures .0) (c .before .before .count2 .ensures .0) (c .before .shorter .ensures) (c .before .before .before .count .ensures .1) (c .before .before .count2 .ensures .1) (c .if1 .taken)
+returns c =
+    let rings = c .before .before .before in
+    laws.count-none _ _ _ _ _ _ (rings .count .ensures .0) (c .before .before .count2 .ensures .0) (c .before .shorter .ensures) (rings .count .ensures .1) (c .before .before .count2 .ensures .1) (c .if1 .taken)
 
 strip-count-requires : tie.Need-strip-count-requires
 strip-count-requires c κs = search needs
