@@ -5,7 +5,7 @@ ghost use mathlib.Core.List.{List};
 ghost use Prim.Native.Nat.{ℕ, _≤_};
 ghost use lib.ListN.{length, take};
 ghost use Rattle.records.specs.Call.{output};
-ghost use Rattle.records.specs.Limits.{resultBytes};
+ghost use Rattle.records.specs.Limits.{version1};
 ghost use Rattle.judgement.specs.Judge.{judge};
 ghost use Rattle.answers.specs.Written.{FoundIn};
 ghost use Rattle.close.specs.Input.{Within};
@@ -88,7 +88,7 @@ fn answer_input(face: &[u8; READ], n: usize, out: &mut [u8; LENT]) -> usize
     requires { ⌜ n ≤ length (now face) ⌝ }
     ensures { λ r. ⌜ r ≤ length (now (out .exit)) ⌝ }
     ensures { λ r. ⌜ ((input : List ℕ) → take n (now (face .entry)) ≡ take (length (now (face .entry))) input
-        → (take r (now (out .exit)) ≡ output (judge resultBytes input)) × FoundIn (judge resultBytes input) (now (out .entry)) (now (out .exit))) ⌝ }
+        → (take r (now (out .exit)) ≡ output (judge (version1 .result) input)) × FoundIn (judge (version1 .result) input) (now (out .entry)) (now (out .exit))) ⌝ }
 {
     let bytes: &[u8] = face;
     write_answer(&bytes[..n], out)

@@ -8,11 +8,16 @@ use mir.Syntax.{w8}
 use mir.Val.{Fits}
 use borrow.Author.Tests.{lt-ltb, le-ltb}
 use lib.ListN.{length, getD, take, length-map}
+use Rattle.records.specs.declared.check.Place.{Place as Found}
+use Rattle.records.specs.declared.check.Place.the-variants.{At}
+use Rattle.records.specs.declared.limits.Limits.{Limits}
 use Rattle.records.specs.Accepted.{Accepted}
+use Rattle.records.specs.Answers.{placeOf}
 use Rattle.records.specs.Call as Call
 use Rattle.records.specs.Call.{Outcome, outcome, code, value, lentAfter}
-use Rattle.records.specs.Limits.{resultBytes}
-use Rattle.records.specs.Refusals.{Verdict, passes, refuses, NoneHolds, conditions, recordConditions, tooFewLent, verdict}
+use Rattle.records.specs.Encodable.{version1-encodable}
+use Rattle.records.specs.Limits.{version1}
+use Rattle.records.specs.Refusals.{Verdict, passes, refuses, Condition, NoneHolds, recordConditions, tooFewLent, wrongHeader, verdict}
 use Rattle.records.specs.Result.{countOf}
 use Rattle.records.proofs.Refused.{verdict-passes}
 use Rattle.records.proofs.Accepted.{accepted-exactly}
@@ -65,26 +70,38 @@ paired o s old {r} {new} n v h = (
   (v ∙ value-is o r (h .0), (h .1 .0, rw (n, v) (h .1 .1))),
 )
 
+-- the conditions of the record, by the limits of version 1: those behind refusal 1
+abbrev behindLent : List Condition
+behindLent = recordConditions version1 ++ laterConditions version1
+
 module _ (old s : List ℕ) where
-  pub too-few : length old < resultBytes → AnswersTo (judge (length old) s) (Refused 1 resultBytes) old old
+  pub too-few : (limits : Limits) → limits ≡ version1 → length old < limits .result → AnswersTo (judge (length old) s) (Refused 1 (limits .result)) old old
   unfolding Call.judge verdict tooFewLent
-  too-few h = refused-by _ 1 resultBytes (rw (lt-ltb (length old) resultBytes h)) old
+  too-few limits e h = rw e (refused-by _ 1 (version1 .result) (rw (lt-ltb (length old) (version1 .result) (rw e at h))) old)
 
-  module _ (enough : resultBytes ≤ length old) where
-    lent-passes : verdict (conditions (length old) ++ laterConditions) s ≡ verdict (recordConditions ++ laterConditions) s
+  module _ (limits : Limits) (limits-are : limits ≡ version1) (lent : limits .result ≤ length old) where
+    enough : version1 .result ≤ length old
+    enough = rw limits-are at lent
+
+    lent-passes : verdict (allConditions (length old)) s ≡ verdict behindLent s
     unfolding verdict tooFewLent
-    lent-passes = rw (le-ltb (length old) resultBytes enough)
+    lent-passes = rw (le-ltb (length old) (version1 .result) enough)
 
-    judge-is : (v : Verdict) → verdict (recordConditions ++ laterConditions) s ≡ v → judge (length old) s ≡ outcome v (result s)
+    judge-is : (v : Verdict) → verdict behindLent s ≡ v → judge (length old) s ≡ outcome v (result s)
     unfolding Call.judge
     judge-is v e = ap (λ (w : Verdict). outcome w (result s)) (lent-passes ∙ e)
 
-    module _ (r : Filled) (counts : List ℕ) (areas t : List Float) (f : FillsTo (verdict (recordConditions ++ laterConditions) s) s r counts areas t) where
+    -- refusal 2 stands first behind it
+    pub header-refused : (found : Found) (p : ℕ) → placeOf found ≡ wrongHeader s → found ≡ At p → AnswersTo (judge (length old) s) (Refused 2 p) old old
+    unfolding verdict
+    header-refused found p is e = refused-by _ 2 p (judge-is (refuses 2 p) (rw (sym is ∙ ap placeOf e))) old
+
+    module _ (r : Filled) (counts : List ℕ) (areas t : List Float) (f : FillsTo (verdict behindLent s) s r counts areas t) where
       pub face-refused : (n p : ℕ) → r ≡ Refuses n p → AnswersTo (judge (length old) s) (Refused n p) old old
       face-refused n p e = refused-by _ n p (judge-is (refuses n p) (refuses-told _ s n p (sym e ∙ f .answer))) old
 
       module _ (path : Path) (n : ℕ) (e : r ≡ Face path n) where
-        told : (verdict (recordConditions ++ laterConditions) s ≡ passes) × ((path ≡ pathTaken s) × (n ≡ length (resultLoops s)))
+        told : (verdict behindLent s ≡ passes) × ((path ≡ pathTaken s) × (n ≡ length (resultLoops s)))
         told = passes-told _ s path n (sym e ∙ f .answer)
 
         held : HoldsResult (resultLoops s) (take n counts) areas t
@@ -96,8 +113,8 @@ module _ (old s : List ℕ) where
         free : NoneHolds (allConditions (length old)) s
         free = verdict-passes s (allConditions (length old)) .0 (lent-passes ∙ told .0)
 
-        accepted : Accepted s
-        accepted = accepted-exactly s .0 (first-passes s laterConditions recordConditions (told .0))
+        accepted : Accepted version1 s
+        accepted = accepted-exactly s version1 .0 (first-passes s (laterConditions version1) (recordConditions version1) (told .0))
 
         pub face-closed : (new : List ℕ) (k : ℕ) → WrittenBytes path n counts areas t old new k → AnswersTo (judge (length old) s) (Closed k) old new
         face-closed new k w =
@@ -105,7 +122,8 @@ module _ (old s : List ℕ) where
             let to : WrittenTo path (take n counts) areas t old new (w .written) =
             subst (λ (m : ℕ). WrittenTo path (take m counts) areas t old new (w .written)) few (w .written-to) in
             subst (λ (o : Outcome). AnswersTo o (Closed k) old new) (sym (judge-is passes (told .0)))
-            (result-written s (accepted .loops-are) (accepted .total) (strip-short (length old) s free) path (ap pathOf (told .1 .0) ∙ path-taken s) (take n counts) areas t held old enough new (w .written) k to (w .bytes))
+            (result-written version1 version1-encodable s (accepted .loops-are) (accepted .total) (strip-short version1 (length old) s free)
+            path (ap pathOf (told .1 .0) ∙ path-taken s) (take n counts) areas t held old enough new (w .written) k to (w .bytes))
 
 -- the bytes of a result with l of its counts
 pub bytes-told : (path : Path) (loops : ℕ) (counts : List ℕ) (areas t : List Float) (old new : List ℕ) (r l : ℕ) → l ≡ min loops (length counts)

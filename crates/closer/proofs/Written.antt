@@ -14,7 +14,8 @@ use Rattle.records.specs.Bytes.{_=?_, sum}
 use Rattle.records.specs.Call.{Outcome, refused, closed, lentAfter}
 use Rattle.records.specs.Face.{loops, points}
 use Rattle.records.specs.Lent.{filledIf}
-use Rattle.records.specs.Limits.{maxLoops, maxPoints, maxStrip, resultBytes}
+use Rattle.records.specs.declared.limits.Limits.{Limits}
+use Rattle.records.specs.Encodable.{Encodable}
 use Rattle.records.specs.Refusals.{Place, nowhere, at, Condition, Verdict, passes, refuses, refuseAt, verdict}
 use Rattle.records.specs.Result.{All, none, and, Short, Writable, encode, cornersOf, countOf, areaOf, resultOf}
 use Rattle.records.proofs.RoundTrip.{length-encode, encode-fits}
@@ -90,11 +91,12 @@ front-full (suc n) (a ∷ l) e = let h = front-full n l (omega arith) in omega a
 front-there : {A : Type 0} (n : ℕ) (l w : List A) → take n l ≡ w → length w ≡ n → n ≤ length l
 front-there n l w e h = front-full n l (ap length e ∙ h)
 
-module _ (s : List ℕ) (few-loops : loops s ≤ maxLoops) (few-points : points s ≤ maxPoints) (short-strip : (wrapping s ≡ 0 → ⊥) → stripPoints s ≤ maxStrip)
+module _ (L : Limits) (encodable : Encodable L) (s : List ℕ) (few-loops : loops s ≤ L .loops) (few-points : points s ≤ L .points)
+    (short-strip : (wrapping s ≡ 0 → ⊥) → stripPoints s ≤ L .strip)
     (path : Path) (path-is : pathOf path ≡ pathIn s) (counts : List ℕ) (areas t : List Float) (h : HoldsResult (resultLoops s) counts areas t)
-    (out : List ℕ) (lent : resultBytes ≤ length out) where
+    (out : List ℕ) (lent : L .result ≤ length out) where
   writable : Writable (resultIn s)
-  writable = result-writable s few-loops few-points short-strip
+  writable = result-writable L encodable s few-loops few-points short-strip
 
   result-is : tableResult (pathOf path) counts areas (rows t) ≡ resultIn s
   unfolding resultIn
@@ -117,11 +119,11 @@ module _ (s : List ℕ) (few-loops : loops s ≤ maxLoops) (few-points : points 
   long : length (result s) ≡ lengthOf counts
   long = length-encode (resultIn s) writable ∙ ap lengthOf counts-in
 
-  short : length (result s) ≤ resultBytes
+  short : length (result s) ≤ L .result
   unfolding resultIn resultOf
   short =
-      let f = result-fine s few-loops few-points short-strip in
-      encode-fits (resultIn s) writable (let a = f .few in let b = length-map (resultLoops s) countOf in omega arith) (f .corners)
+      let f = result-fine L encodable s few-loops few-points short-strip in
+      encode-fits (resultIn s) writable L encodable (let a = f .few in let b = length-map (resultLoops s) countOf in omega arith) (f .corners)
 
   corners-there : sum counts ≤ length (rows t)
   unfolding resultIn resultOf

@@ -8,6 +8,9 @@ ghost use Rattle.magnitudes.specs.Bounded.{ResultBounded};
 ghost use Rattle.closer.specs.Returned.{answerOf, codeOf, valueOf, bytesWritten, WrittenBytes};
 use filling::face::Filled;
 use filling::face::fill_face;
+use records::check::Place;
+use records::check::wrong_header;
+use records::limits::version1;
 use results::Path;
 use results::Written;
 use results::write_result;
@@ -75,11 +78,15 @@ pub fn close_face(record: &[u8], result: &mut [u8]) -> Answer
     ensures { λ r. ⌜ WholeDemand (now («record» .entry)) (codeOf r) (now (result .exit)) ⌝ }
     ensures { λ r. ⌜ ResultBounded (now («record» .entry)) (codeOf r) (now (result .exit)) ⌝ }
 {
-    if result.len() < 61614 {
+    let limits = version1();
+    if result.len() < limits.result {
         return Answer::Refused {
             number: 1,
-            place: 61614,
+            place: limits.result,
         };
+    }
+    if let Place::At(place) = wrong_header(record) {
+        return Answer::Refused { number: 2, place };
     }
     let mut t = [0.0; 7680];
     let mut counts = [0; 16];

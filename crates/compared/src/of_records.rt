@@ -4,9 +4,11 @@ ghost use lib.ListN.{length};
 ghost use Rattle.records.specs.Answers.{numberOf, placeIn};
 ghost use Rattle.records.specs.Face.{counts, head, cornersIn};
 ghost use Rattle.records.specs.Lent.{filledIf, readIf, countsFit, headFits, pointsFit};
+ghost use Rattle.records.specs.Limits.{version1};
 ghost use Rattle.records.specs.Refusals.{recordConditions, verdict};
 ghost use Rattle.tables.specs.Rows.{rows};
 ghost use Rattle.compared.specs.Records.{readOf};
+use records::limits::version1;
 use records::read::Read;
 
 // How many values or bytes there are: `done` is 0 where something lent was too short, else 1.
@@ -28,16 +30,16 @@ fn read_of(read: Read) -> Counted
 // The number of the refusal, 0 where the check passes.
 #[no_mangle]
 pub extern "C" fn compared_refusal(face: &[u8]) -> u8
-    ensures { λ r. ⌜ r ≡ numberOf (verdict recordConditions (now (face .entry))) ⌝ }
+    ensures { λ r. ⌜ r ≡ numberOf (verdict (recordConditions version1) (now (face .entry))) ⌝ }
 {
-    records::check::check(face).number()
+    records::check::check(face, version1()).number()
 }
 
 #[no_mangle]
 pub extern "C" fn compared_refusal_place(face: &[u8]) -> usize
-    ensures { λ r. ⌜ r ≡ placeIn (verdict recordConditions (now (face .entry))) ⌝ }
+    ensures { λ r. ⌜ r ≡ placeIn (verdict (recordConditions version1) (now (face .entry))) ⌝ }
 {
-    records::check::check(face).place()
+    records::check::check(face, version1()).place()
 }
 
 #[no_mangle]

@@ -31,7 +31,7 @@ use Rattle.strip.specs.declared.closing.Closing.{Closing}
 use Rattle.strip.specs.declared.closing.Closing.the-variants.{Closed, TooMany}
 use Rattle.records.specs.Bytes.{sum, _=?_}
 use Rattle.records.specs.Face as Record
-use Rattle.records.specs.Limits.{maxStrip}
+use Rattle.records.specs.Limits.{version1}
 use Rattle.records.specs.Refusals.{Verdict, passes, refuses, verdict}
 use Rattle.records.specs.Result.{cornersOf, countOf, areaOf}
 use Rattle.results.specs.declared.Path.the-variants.{Wrapped}
@@ -139,39 +139,39 @@ module _ (s : List ℕ) (corners : List Float) (given : List ℕ) (loops : List 
 
   -- ---- the verdict
 
-  short-passes : stripPoints s ≤ maxStrip → verdict stripConditions s ≡ passes
+  short-passes : stripPoints s ≤ version1 .strip → verdict stripConditions s ≡ passes
   unfolding verdict longStrip
-  short-passes h = rw (eq-eqb (wrapping s) 2 (f .two), le-ltb maxStrip (stripPoints s) h)
+  short-passes h = rw (eq-eqb (wrapping s) 2 (f .two), le-ltb (version1 .strip) (stripPoints s) h)
 
-  long-refuses : maxStrip < stripPoints s → verdict stripConditions s ≡ refuses 12 (stripPoints s)
+  long-refuses : version1 .strip < stripPoints s → verdict stripConditions s ≡ refuses 12 (stripPoints s)
   unfolding verdict longStrip
-  long-refuses h = rw (eq-eqb (wrapping s) 2 (f .two), lt-ltb maxStrip (stripPoints s) h)
+  long-refuses h = rw (eq-eqb (wrapping s) 2 (f .two), lt-ltb (version1 .strip) (stripPoints s) h)
 
   -- ---- how the band closes
 
   module _ (r : Closing) (t : List Float) (now : List (Corners Vec3)) (is : BandIs S g r t now) where
-    closed-short : (n : ℕ) (area : Float) → r ≡ Closed n area → (stripPoints s ≤ maxStrip) × ((n ≡ length (outer S g)) × (area ≡ signedArea (outer S g)))
+    closed-short : (n : ℕ) (area : Float) → r ≡ Closed n area → (stripPoints s ≤ version1 .strip) × ((n ≡ length (outer S g)) × (area ≡ signedArea (outer S g)))
     unfolding bandClosing stripPoints
-    closed-short n area e = by-room (decLe (length (stripOf S g)) maxStrip)
+    closed-short n area e = by-room (decLe (length (stripOf S g)) (version1 .strip))
       where
-        by-room : Dec (length (stripOf S g) ≤ maxStrip) → (length (stripOf S g) ≤ maxStrip) × ((n ≡ length (outer S g)) × (area ≡ signedArea (outer S g)))
-        by-room (yes h) = let c : Closed n area ≡ closedAs (outer S g) = sym e ∙ is .answer ∙ rw (le-leb (length (stripOf S g)) maxStrip h) in (h, (cc, cc))
+        by-room : Dec (length (stripOf S g) ≤ version1 .strip) → (length (stripOf S g) ≤ version1 .strip) × ((n ≡ length (outer S g)) × (area ≡ signedArea (outer S g)))
+        by-room (yes h) = let c : Closed n area ≡ closedAs (outer S g) = sym e ∙ is .answer ∙ rw (le-leb (length (stripOf S g)) (version1 .strip) h) in (h, (cc, cc))
         by-room (no h) =
-            let c : Closed n area ≡ TooMany (capped (length (stripOf S g))) = sym e ∙ is .answer ∙ rw (lt-leb (length (stripOf S g)) maxStrip (omega arith)) in
+            let c : Closed n area ≡ TooMany (capped (length (stripOf S g))) = sym e ∙ is .answer ∙ rw (lt-leb (length (stripOf S g)) (version1 .strip) (omega arith)) in
             let z : _≡_ {A = ℕ} 0 1 = cc in
             absurd (omega arith)
 
-    too-long : (n : ℕ) → r ≡ TooMany n → (maxStrip < stripPoints s) × (n ≡ stripPoints s)
+    too-long : (n : ℕ) → r ≡ TooMany n → (version1 .strip < stripPoints s) × (n ≡ stripPoints s)
     unfolding bandClosing stripPoints
-    too-long n e = by-room (decLe (length (stripOf S g)) maxStrip)
+    too-long n e = by-room (decLe (length (stripOf S g)) (version1 .strip))
       where
-        by-room : Dec (length (stripOf S g) ≤ maxStrip) → (maxStrip < length (stripOf S g)) × (n ≡ length (stripOf S g))
+        by-room : Dec (length (stripOf S g) ≤ version1 .strip) → (version1 .strip < length (stripOf S g)) × (n ≡ length (stripOf S g))
         by-room (yes h) =
-            let c : TooMany n ≡ closedAs (outer S g) = sym e ∙ is .answer ∙ rw (le-leb (length (stripOf S g)) maxStrip h) in
+            let c : TooMany n ≡ closedAs (outer S g) = sym e ∙ is .answer ∙ rw (le-leb (length (stripOf S g)) (version1 .strip) h) in
             let z : _≡_ {A = ℕ} 0 1 = cc in
             absurd (omega arith)
         by-room (no h) =
-            let c : TooMany n ≡ TooMany (capped (length (stripOf S g))) = sym e ∙ is .answer ∙ rw (lt-leb (length (stripOf S g)) maxStrip (omega arith)) in
+            let c : TooMany n ≡ TooMany (capped (length (stripOf S g))) = sym e ∙ is .answer ∙ rw (lt-leb (length (stripOf S g)) (version1 .strip) (omega arith)) in
             let k : n ≡ capped (length (stripOf S g)) = cc in
             let m = strip-most s (f .accepted) in
             (omega arith, omega arith)
@@ -188,10 +188,10 @@ module _ (s : List ℕ) (corners : List Float) (given : List ℕ) (loops : List 
 
   module _ (r : Closing) (t held : List Float) (is : BandIs S g r t (pieces (others a b given) (rows held))) (n : ℕ) (area : Float) (closed : r ≡ Closed n area)
       (t-long : length t ≡ 7680) (held-long : length held ≡ 2560) where
-    fits : (stripPoints s ≤ maxStrip) × ((n ≡ length (outer S g)) × (area ≡ signedArea (outer S g)))
+    fits : (stripPoints s ≤ version1 .strip) × ((n ≡ length (outer S g)) × (area ≡ signedArea (outer S g)))
     fits = closed-short r t (pieces (others a b given) (rows held)) is n area closed
 
-    band-few : n ≤ maxStrip
+    band-few : n ≤ version1 .strip
     unfolding outer stripPoints
     band-few = let h = fits in let k = repeats-fewer (λ (c d : Corner Vec3). S .same (c .at) (d .at)) (stripOf S g) in let x = h .0 in let y = h .1 .0 in omega arith
 

@@ -23,7 +23,7 @@ use Rattle.laying.specs.Held.{faceIn, ringsIn, hasRoom, reseamWithin, startedWi
 use Rattle.laying.specs.Held.{givenIn as heldIn}
 use Rattle.wrapped_region.specs.Rings.{ringsOf}
 use Rattle.wrapped_region.proofs.Band.{closing-is, outer-in-front}
-use Rattle.records.specs.Limits.{maxStrip}
+use Rattle.records.specs.Limits.{version1}
 use Rattle.filling.specs.Band.{bandClosing, BandIs}
 
 module _ (S : Setting Vec3) (counts : List ℕ) (first₀ later₀ holes₀ first₁ later₁ first₂ later₂ holes₂ first₃ later₃ : List Float) (ff lf : Bool) (m n room : ℕ)
@@ -69,11 +69,11 @@ module _ (S : Setting Vec3) (counts : List ℕ) (first₀ later₀ holes₀ firs
       let face : Face Vec3 = ringsOf first₃ later₃ in
       let k = length-rows wall in
       let l = length-rows t in
-      let room-is : roomFor wall t ≡ maxStrip = omega arith in
-      let within : maxStrip ≤ length (rows t) = omega arith in
+      let room-is : roomFor wall t ≡ version1 .strip = omega arith in
+      let within : version1 .strip ≤ length (rows t) = omega arith in
       record {
-        answer = answer ∙ (λ i. closingOf S (lowerOf S (e₁ i) (e₂ i) face) (upperOf S (e₁ i) (e₂ i) face) (room-is i)) ∙ closing-is S given face first-is later-is maxStrip;
-        band = λ fits. outer-in-front S given face first-is later-is maxStrip (rows t) (rows t′)
+        answer = answer ∙ (λ i. closingOf S (lowerOf S (e₁ i) (e₂ i) face) (upperOf S (e₁ i) (e₂ i) face) (room-is i)) ∙ closing-is S given face first-is later-is (version1 .strip);
+        band = λ fits. outer-in-front S given face first-is later-is (version1 .strip) (rows t) (rows t′)
             (out ∙ (λ i. closedInto S (lowerOf S (e₁ i) (e₂ i) face) (upperOf S (e₁ i) (e₂ i) face) (room-is i) (rows t))) fits within;
         holes-are = holes-are;
       }

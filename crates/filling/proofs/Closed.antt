@@ -26,6 +26,8 @@ use Rattle.records.specs.Accepted.{Accepted}
 use Rattle.records.specs.Bytes.{sum}
 use Rattle.records.specs.Face.{loops}
 use Rattle.records.specs.Face as Face
+use Rattle.records.specs.Encodable.{version1-encodable}
+use Rattle.records.specs.Limits.{version1}
 use Rattle.records.specs.Refusals.{passes}
 use Rattle.records.specs.Result.{cornersOf, countOf, areaOf}
 use Rattle.records.proofs.Accepted.{points-sum}
@@ -52,7 +54,7 @@ unfolding pieces sum
 lengths-pieces [] xs e = refl
 lengths-pieces (n ∷ ns) xs e = λ i. length-take-le n xs (omega arith) i ∷ lengths-pieces ns (drop n xs) (let d = length-drop n xs in omega arith) i
 
-module _ (s : List ℕ) (a : Accepted s) (some : 0 < loops s) (none : wrapping s ≡ 0) (surface : Surface) (surface-is : surface ≡ surfaceIn s)
+module _ (s : List ℕ) (a : Accepted version1 s) (some : 0 < loops s) (none : wrapping s ≡ 0) (surface : Surface) (surface-is : surface ≡ surfaceIn s)
     (given : List ℕ) (r : Corners Vec3) (given-is : given ≡ Face.counts s) (r-is : r ≡ Face.cornersIn s) where
   ls : List (Corners Vec3)
   ls = pieces given r
@@ -123,7 +125,7 @@ module _ (s : List ℕ) (a : Accepted s) (some : 0 < loops s) (none : wrapping s
           → length t₀ ≡ 7680 → length c₀ ≡ 16 → length x₀ ≡ 16 → FillsTo passes s (Filled Closed (length given)) c x t)
       closed-filled r′ a′ t₀ t c₀ c x₀ x r-then a-left t-is c-is x-is t-room c-room x-room =
           let left = closed-result given r (take l m) (length (boxesIn boxes)) (periodLength u) (periodLength v) face r′ a′ (rows t₀) (rows t) c₀ c x₀ x r-then a-left t-is c-is x-is in
-          let fine = result-fine s (a .loops-are) (a .total) (λ wraps. absurd (wraps none)) in
+          let fine = result-fine version1 version1-encodable s (a .loops-are) (a .total) (λ wraps. absurd (wraps none)) in
           let corners = fine .corners in
           let together : sum (map countOf (resultLoops s)) ≡ length (cornersOf result) = ap (λ (k : List ResultLoop). sum (map countOf k)) (sym result-is) ∙ counts-together result in
           let room = length-rows t₀ in

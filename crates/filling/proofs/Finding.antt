@@ -29,6 +29,7 @@ use Rattle.bands.specs.Given.{falls}
 use Rattle.records.specs.Answers.{placeOf}
 use Rattle.records.specs.Accepted.{Accepted}
 use Rattle.records.specs.Face.{counts, cornersIn}
+use Rattle.records.specs.Limits.{version1}
 use Rattle.records.specs.Refusals.{at, firstWhere}
 use Rattle.records.specs.Refusals as Sought
 use Rattle.records.proofs.Search.{nowhere≢at}
@@ -79,7 +80,7 @@ number-found Nowhere q n e some is = absurd (some (sym e))
 number-found (At k) q n e some is = sym e ∙ ap at (sym (is k refl))
 
 pub face-of : (s : List ℕ) (corners : List Float) (given : List ℕ) (loops : List LoopRecord) (wraps : List ℤ) (frame : Frame) (surface : Surface) (options : Resolved) (sense : Bool) (p q : Place) (a b : ℕ)
-    → Accepted s → wrapping s ≡ 2 → given ≡ counts s → rows corners ≡ cornersIn s → loops ≡ placed 0 (recordsFrom (uPeriod surface) 0 (pieces given (rows corners))) (replicate 16 noLoop)
+    → Accepted version1 s → wrapping s ≡ 2 → given ≡ counts s → rows corners ≡ cornersIn s → loops ≡ placed 0 (recordsFrom (uPeriod surface) 0 (pieces given (rows corners))) (replicate 16 noLoop)
     → wraps ≡ wrapsIn s → surface ≡ surfaceIn s → frame ≡ frameIn s → options ≡ optionsIn s → sense ≡ senseIn s
     → placeOf p ≡ lastWhere (length wraps) (wrapsAt wraps) → ((k : ℕ) → placeOf p ≡ at k → a ≡ k)
     → placeOf q ≡ firstWhere (length wraps) (wrapsAt wraps) → ((k : ℕ) → placeOf q ≡ at k → b ≡ k)

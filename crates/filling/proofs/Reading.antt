@@ -16,6 +16,7 @@ use Rattle.records.specs.Accepted.{Accepted}
 use Rattle.records.specs.Bytes.{_≤?_}
 use Rattle.records.specs.Face.{kind, sense, segments, loops, counts, points, needed, cornersIn}
 use Rattle.records.specs.Lent.{readIf, countsThere, countsFit, pointsFit, CountsRead, HeadRead, CornersRead}
+use Rattle.records.specs.Limits.{version1}
 use Rattle.records.proofs.Columns.{length-counts, length-corners}
 use Rattle.results.proofs.Whole.{and-snd}
 use Rattle.measuring.proofs.ReadLoops.{head-read-back, counts-read-back, corners-read-back}
@@ -53,7 +54,7 @@ reals-told s t t′ r h n n-is = let b = corners-told s t t′ r h n n-is in let
 
 -- ---- a record that is accepted
 
-module _ (s : List ℕ) (a : Accepted s) where
+module _ (s : List ℕ) (a : Accepted version1 s) where
   pub read-as : (kind′ sense′ segments′ : ℕ) → kind′ ≡ kind s → sense′ ≡ sense s → segments′ ≡ segments s
       → (h₀ h : List Float) (hr : Read) → HeadRead s h₀ h hr → length h₀ ≡ 13 → length h ≡ 13
       → (c₀ c : List ℕ) (r : Read) → CountsRead s c₀ c r → length c₀ ≡ 16 → (l : ℕ) → l ≡ readMany r

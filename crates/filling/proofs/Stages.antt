@@ -23,6 +23,7 @@ use Rattle.loop_records.specs.Record.{noLoop}
 use Rattle.records.specs.Accepted.{Accepted}
 use Rattle.records.specs.Bytes.{_=?_}
 use Rattle.records.specs.Face.{loops}
+use Rattle.records.specs.Limits.{version1}
 use Rattle.records.specs.Refusals.{Place, nowhere, at, Condition, Verdict, passes, refuses, refuseAt, verdict, recordConditions}
 use Rattle.records.proofs.Accepted.{accepted-exactly}
 use Rattle.records.proofs.Columns.{length-counts}
@@ -89,12 +90,12 @@ module _ (s : List ℕ) (cs ds : List Condition) (found : Found) (found-is : ver
     pub filled-as : (r : Filled) (counts : List ℕ) (areas t : List Float) → FillsTo (verdict ds s) s r counts areas t → FillsTo (verdict (cs ++ ds) s) s r counts areas t
     filled-as r counts areas t = subst (λ (v : Verdict). FillsTo v s r counts areas t) (sym (first-pass s ds cs passed-as))
 
-pub accepted-as : (s : List ℕ) (found : Found) → verdictOf found ≡ verdict recordConditions s → found ≡ Passes → Accepted s
-accepted-as s found found-is e = accepted-exactly s .0 (sym found-is ∙ ap verdictOf e)
+pub accepted-as : (s : List ℕ) (found : Found) → verdictOf found ≡ verdict (recordConditions version1) s → found ≡ Passes → Accepted version1 s
+accepted-as s found found-is e = accepted-exactly s version1 .0 (sym found-is ∙ ap verdictOf e)
 
 -- ---- the three paths
 
-module _ (s : List ℕ) (a : Accepted s) (kind sense segments : ℕ) (head : List Float) (counts : List ℕ) (t : List Float) (read : ReadAs s kind sense segments head counts t) where
+module _ (s : List ℕ) (a : Accepted version1 s) (kind sense segments : ℕ) (head : List Float) (counts : List ℕ) (t : List Float) (read : ReadAs s kind sense segments head counts t) where
   pub counted : length counts ≡ loops s
   counted = ap length (read .counts-are) ∙ length-counts s
 

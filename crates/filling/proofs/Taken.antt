@@ -28,7 +28,7 @@ use Rattle.bands.specs.Strip.{Setting}
 use Rattle.strip.specs.declared.closing.Closing.{Closing}
 use Rattle.laying.specs.Held.{givenIn as heldIn}
 use Rattle.records.specs.Face as Record
-use Rattle.records.specs.Limits.{maxLoops, maxPoints}
+use Rattle.records.specs.Limits.{version1}
 use Rattle.records.proofs.Accepted.{points-sum}
 use Rattle.records.proofs.Columns.{length-counts, length-corners}
 use Rattle.judgement.specs.Face.{surfaceIn, loopsIn, wrapOf, measuredIn, settingIn, givenIn}
@@ -88,7 +88,7 @@ module _ (s : List ℕ) (corners : List Float) (given : List ℕ) (loops : List 
       omega arith
 
   -- all points of rings and holes together
-  pub points-few : length (flatten (givenIn s .holes)) + (length (givenIn s .first .corners) + length (givenIn s .later .corners)) ≤ maxPoints
+  pub points-few : length (flatten (givenIn s .holes)) + (length (givenIn s .first .corners) + length (givenIn s .later .corners)) ≤ version1 .points
   points-few =
       let e = points-parted s (f .two) a b (f .first-is) (f .later-is) in
       let t = total-length (loopsIn s) in
@@ -118,8 +118,8 @@ module _ (s : List ℕ) (corners : List Float) (given : List ℕ) (loops : List 
         ∙ sym (ap (λ (m : Measured Vec3). falls (m .wrap)) (getD-map (λ (l : Corners Vec3). record { corners = l; wrap = wrapOf (uPeriod (surfaceIn s)) l }) (loopsIn s) k none [] (omega arith)))
 
     -- in the front of a table
-    pub ring-taken : (one : LoopRecord) (d d′ : List Float) (m : ℕ) → one ≡ getD loops k noLoop → length d ≡ 2560 → length (loopIn s k .corners) ≤ maxPoints
-        → m ≡ 5 * min (one .count) maxPoints → rows d′ ≡ placed 0 (take (one .count) (drop (one .start) (rows corners))) (rows d)
+    pub ring-taken : (one : LoopRecord) (d d′ : List Float) (m : ℕ) → one ≡ getD loops k noLoop → length d ≡ 2560 → length (loopIn s k .corners) ≤ version1 .points
+        → m ≡ 5 * min (one .count) (version1 .points) → rows d′ ≡ placed 0 (take (one .count) (drop (one .start) (rows corners))) (rows d)
         → rows (take m d′) ≡ loopIn s k .corners
     ring-taken one d d′ m one-is long short m-is put =
         let w : Corners Vec3 = loopIn s k .corners in
@@ -146,7 +146,7 @@ module _ (s : List ℕ) (corners : List Float) (given : List ℕ) (loops : List 
       let all : k ≡ length (others a b given) = omega arith in
       (λ i. take (all i) (put i)) ∙ front-placed (others a b given) d (omega arith)
 
-  pub holes-taken : (d d′ : List Float) → maxPoints ≤ length (rows d) → rows d′ ≡ placed 0 (flatten (others a b (pieces given (rows corners)))) (rows d) → pieces (others a b given) (rows d′) ≡ hs
+  pub holes-taken : (d d′ : List Float) → version1 .points ≤ length (rows d) → rows d′ ≡ placed 0 (flatten (others a b (pieces given (rows corners)))) (rows d) → pieces (others a b given) (rows d′) ≡ hs
   holes-taken d d′ room put =
       let p = points-few in
       (λ i. pieces (hole-counts i) ((put ∙ ap (λ (l : List (Corners Vec3)). placed 0 (flatten l) (rows d)) hole-lists ∙ placed-fits 0 (flatten hs) (rows d) (omega arith)) i))
@@ -170,7 +170,7 @@ module _ (s : List ℕ) (corners : List Float) (given : List ℕ) (loops : List 
         let k : pieces counts (rows holes) ≡ hs = ap (λ (ns : List ℕ). pieces ns (rows holes)) counts-are ∙ holes-are in
         λ i. record { first = e i; later = g i; holes = k i }
 
-    rings-short : length (rows first) + length (rows later) ≤ maxPoints
+    rings-short : length (rows first) + length (rows later) ≤ version1 .points
     rings-short =
         let e = ap (λ (l : Loop Vec3). length (l .corners)) (first-given s (f .two) a (f .first-is)) in
         let g = ap (λ (l : Loop Vec3). length (l .corners)) (later-given s (f .two) b (f .later-is)) in
@@ -179,7 +179,7 @@ module _ (s : List ℕ) (corners : List Float) (given : List ℕ) (loops : List 
         let p = points-few in
         omega arith
 
-    counts-few : length counts ≤ maxLoops
+    counts-few : length counts ≤ version1 .loops
     counts-few =
         let e = ap length counts-are ∙ ap length hole-counts ∙ length-map hs length in
         let n = holes-two-less in
@@ -187,7 +187,7 @@ module _ (s : List ℕ) (corners : List Float) (given : List ℕ) (loops : List 
         omega arith
 
     pub band-taken : (p : Period) (period : Float) (r : Closing) (t′ holes′ : List Float) → p ≡ uPeriod surface → period ≡ periodLength p
-        → (length counts ≤ maxLoops → length (rows first) + length (rows later) ≤ maxPoints
+        → (length counts ≤ version1 .loops → length (rows first) + length (rows later) ≤ version1 .points
         → BandIs (settingOf frame surface options period sense) (heldIn first later ff lf (pieces counts (rows holes))) r t′ (pieces counts (rows holes′)))
         → BandIs (settingIn s) (givenIn s) r t′ (pieces (others a b given) (rows holes′))
     band-taken p period r t′ holes′ p-is period-is is =
@@ -196,11 +196,11 @@ module _ (s : List ℕ) (corners : List Float) (given : List ℕ) (loops : List 
         (subst (λ (S : Setting Vec3). BandIs S (heldIn first later ff lf (pieces counts (rows holes))) r t′ (pieces counts (rows holes′))) (setting-taken p period p-is period-is) (is counts-few rings-short)))
 
   -- the rings have no more corners than there are points
-  pub first-short : length (loopIn s a .corners) ≤ maxPoints
+  pub first-short : length (loopIn s a .corners) ≤ version1 .points
   first-short = let e = ap (λ (l : Loop Vec3). length (l .corners)) (first-given s (f .two) a (f .first-is)) in let p = points-few in omega arith
 
-  pub later-short : length (loopIn s b .corners) ≤ maxPoints
+  pub later-short : length (loopIn s b .corners) ≤ version1 .points
   later-short = let e = ap (λ (l : Loop Vec3). length (l .corners)) (later-given s (f .two) b (f .later-is)) in let p = points-few in omega arith
 
-pub room-in : (d : List Float) → length d ≡ 2560 → maxPoints ≤ length (rows d)
+pub room-in : (d : List Float) → length d ≡ 2560 → version1 .points ≤ length (rows d)
 room-in d long = let l = length-rows d in omega arith

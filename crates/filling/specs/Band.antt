@@ -26,7 +26,7 @@ use Rattle.strip.specs.declared.closing.Closing.{Closing}
 use Rattle.strip.specs.declared.closing.Closing.the-variants.{TooMany}
 use Rattle.records.specs.Accepted.{Accepted}
 use Rattle.records.specs.Face.{counts, cornersIn}
-use Rattle.records.specs.Limits.{maxStrip}
+use Rattle.records.specs.Limits.{version1}
 use Rattle.records.specs.Refusals.{at, firstWhere}
 use Rattle.judgement.specs.Face.{frameIn, surfaceIn, optionsIn, senseIn, wrapping}
 use Rattle.measuring.specs.Loops.{recordsFrom, wrapsIn}
@@ -35,17 +35,17 @@ use Rattle.measuring.specs.Refusals.{wrapsAt, lastWhere}
 module _ (S : Setting Vec3) (given : Given Vec3) where
   -- how many corners the band has and its area; or how many points its strip has "before repeats are dropped", over 1,024 (01, refusal 12)
   unfoldable pub bandClosing : Closing
-  bandClosing = cond (leb (length (stripOf S given)) maxStrip) (closedAs (outer S given)) (TooMany (capped (length (stripOf S given))))
+  bandClosing = cond (leb (length (stripOf S given)) (version1 .strip)) (closedAs (outer S given)) (TooMany (capped (length (stripOf S given))))
 
   -- where it closes, the band is the front of the table t; hs are the holes as the strip takes them
   pub record BandIs (r : Closing) (t : List Float) (hs : List (Corners Vec3)) : Type 0 where
     pub answer : r ≡ bandClosing
-    pub band : length (stripOf S given) ≤ maxStrip → take (length (outer S given)) (rows t) ≡ outer S given
+    pub band : length (stripOf S given) ≤ version1 .strip → take (length (outer S given)) (rows t) ≡ outer S given
     pub holes-are : hs ≡ holes S given
 
 -- What is taken from the face record s, of which two loops wrap: "Rings are taken last wrapping loop first", that of number a before that of number b.
 pub record BandFace (s : List ℕ) (corners : List Float) (given : List ℕ) (loops : List LoopRecord) (frame : Frame) (surface : Surface) (options : Resolved) (sense : Bool) (a b : ℕ) : Type 0 where
-  pub accepted : Accepted s
+  pub accepted : Accepted version1 s
   pub two : wrapping s ≡ 2
   pub given-is : given ≡ counts s
   pub corners-are : rows corners ≡ cornersIn s

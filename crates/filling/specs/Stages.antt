@@ -10,6 +10,7 @@ use Rattle.tables.specs.Corners.{Corners}
 use Rattle.tables.specs.Rows.{rows}
 use Rattle.records.specs.Face as Face
 use Rattle.records.specs.Face.{cornersIn}
+use Rattle.records.specs.Limits.{version1}
 use Rattle.records.specs.Refusals.{Verdict, passes, refuses, Condition, _on_, refuseAt}
 use Rattle.judgement.specs.Later.{openRing, oneRing, manyRings, openSurface, longStrip}
 use Rattle.measuring.specs.Refusals.{openAmong, oneAmong, manyAmong, openKind}
@@ -40,7 +41,7 @@ ringConditions =
 
 -- the last refusal
 abbrev pub stripConditions : List Condition
-stripConditions = 12 on longStrip ∷ []
+stripConditions = 12 on longStrip version1 ∷ []
 
 -- the refusals 8 to 11 of a face of this kind with these loops and their wraps, the first that holds
 unfoldable pub ringsVerdict : ℕ → List (Corners Vec3) → List ℤ → Verdict

@@ -9,6 +9,7 @@ ghost use Rattle.tables.specs.Rows.{rows};
 ghost use Rattle.surfaces.specs.Domains.{uPeriod};
 ghost use Rattle.loop_records.specs.Record.{noLoop};
 ghost use Rattle.records.specs.Accepted.{Accepted};
+ghost use Rattle.records.specs.Limits.{version1};
 ghost use Rattle.records.specs.Refusals.{passes, verdict, recordConditions};
 ghost use Rattle.judgement.specs.Face.{surfaceIn};
 ghost use Rattle.judgement.specs.Later.{laterConditions};
@@ -61,7 +62,7 @@ fn fill_path(
     counts: &mut [usize; 16],
     areas: &mut [f64; 16],
 ) -> Filled
-    ensures { λ r. ⌜ ((s : List ℕ) (kind : ℕ) → Accepted s → ReadAs s kind sense segments (now (head .entry)) (now (given .entry)) (now (corners .entry))
+    ensures { λ r. ⌜ ((s : List ℕ) (kind : ℕ) → Accepted version1 s → ReadAs s kind sense segments (now (head .entry)) (now (given .entry)) (now (corners .entry))
         → loops ≡ placed 0 (recordsFrom (uPeriod surface) 0 (pieces (now (given .entry)) (rows (now (corners .entry))))) (replicate 16 noLoop)
         → now (wraps .entry) ≡ wrapsIn s → surface ≡ surfaceIn s → verdict ringConditions s ≡ passes
         → FillsTo (verdict stripConditions s) s r (now (counts .exit)) (now (areas .exit)) (now (t .exit))) ⌝ }
@@ -109,8 +110,8 @@ fn fill_read(
     counts: &mut [usize; 16],
     areas: &mut [f64; 16],
 ) -> Filled
-    ensures { λ r. ⌜ ((s : List ℕ) → Accepted s → ReadAs s kind sense segments (now (head .entry)) (now (given .entry)) (now (corners .entry))
-        → FillsTo (verdict laterConditions s) s r (now (counts .exit)) (now (areas .exit)) (now (t .exit))) ⌝ }
+    ensures { λ r. ⌜ ((s : List ℕ) → Accepted version1 s → ReadAs s kind sense segments (now (head .entry)) (now (given .entry)) (now (corners .entry))
+        → FillsTo (verdict (laterConditions version1) s) s r (now (counts .exit)) (now (areas .exit)) (now (t .exit))) ⌝ }
 {
     let surface = surface_of(kind, at(head, 9), at(head, 10));
     let loops = measure_loops(corners, given, surface.u_period());
@@ -152,7 +153,7 @@ fn fill_record(
     counts: &mut [usize; 16],
     areas: &mut [f64; 16],
 ) -> Filled
-    ensures { λ r. ⌜ (Accepted (now (face .entry)) → FillsTo (verdict laterConditions (now (face .entry))) (now (face .entry)) r (now (counts .exit)) (now (areas .exit)) (now (t .exit))) ⌝ }
+    ensures { λ r. ⌜ (Accepted version1 (now (face .entry)) → FillsTo (verdict (laterConditions version1) (now (face .entry))) (now (face .entry)) r (now (counts .exit)) (now (areas .exit)) (now (t .exit))) ⌝ }
 {
     let mut head = [0.0; 13];
     let mut given = [0; 16];
@@ -182,7 +183,7 @@ pub fn fill_face(
     counts: &mut [usize; 16],
     areas: &mut [f64; 16],
 ) -> Filled
-    ensures { λ r. ⌜ FillsTo (verdict (recordConditions ++ laterConditions) (now (face .entry))) (now (face .entry)) r (now (counts .exit)) (now (areas .exit)) (now (t .exit)) ⌝ }
+    ensures { λ r. ⌜ FillsTo (verdict (recordConditions version1 ++ laterConditions version1) (now (face .entry))) (now (face .entry)) r (now (counts .exit)) (now (areas .exit)) (now (t .exit)) ⌝ }
 {
     if let Verdict::Refuses { number, place } = check_record(face) {
         return Filled::Refused { number, place };

@@ -23,7 +23,7 @@ ghost use Rattle.bands.specs.Columns.{settingOf};
 ghost use Rattle.laying.specs.Held.{givenIn as heldIn};
 ghost use Rattle.holes.specs.Others.{others};
 ghost use Rattle.records.specs.Answers.{placeOf};
-ghost use Rattle.records.specs.Limits.{maxLoops, maxPoints};
+ghost use Rattle.records.specs.Limits.{version1};
 ghost use Rattle.judgement.specs.Paths.{signedArea};
 ghost use Rattle.filling.specs.Band.{BandIs, BandFace};
 use closed_face::face::closed_face;
@@ -78,7 +78,7 @@ fn fill_whole(
     counts: &mut [usize; 16],
     areas: &mut [f64; 16],
 ) -> Filled
-    ensures { λ r. ⌜ ((s : List ℕ) → Accepted s → loopsOf s ≡ 0 → surface ≡ surfaceIn s → frame ≡ frameIn s → options ≡ optionsIn s
+    ensures { λ r. ⌜ ((s : List ℕ) → Accepted version1 s → loopsOf s ≡ 0 → surface ≡ surfaceIn s → frame ≡ frameIn s → options ≡ optionsIn s
         → FillsTo passes s r (now (counts .exit)) (now (areas .exit)) (now (t .exit))) ⌝ }
 {
     put_count(counts, 0, full_domain_count(surface, options));
@@ -100,7 +100,7 @@ fn fill_closed(
     counts: &mut [usize; 16],
     areas: &mut [f64; 16],
 ) -> Filled
-    ensures { λ r. ⌜ ((s : List ℕ) → Accepted s → 0 < loopsOf s → wrapping s ≡ 0 → surface ≡ surfaceIn s
+    ensures { λ r. ⌜ ((s : List ℕ) → Accepted version1 s → 0 < loopsOf s → wrapping s ≡ 0 → surface ≡ surfaceIn s
         → now (given .entry) ≡ countsOf s → rows (now (corners .entry)) ≡ cornersIn s → loops ≡ placed 0 (recordsFrom (uPeriod surface) 0 (pieces (now (given .entry)) (rows (now (corners .entry))))) (replicate 16 noLoop)
         → FillsTo passes s r (now (counts .exit)) (now (areas .exit)) (now (t .exit))) ⌝ }
 {
@@ -169,7 +169,7 @@ fn band_between(
     sense: bool,
     t: &mut [f64; 7680],
 ) -> Closing
-    ensures { λ r. ⌜ (length (now (counts .entry)) ≤ maxLoops → length (rows (now (first .entry))) + length (rows (now (later .entry))) ≤ maxPoints
+    ensures { λ r. ⌜ (length (now (counts .entry)) ≤ version1 .loops → length (rows (now (first .entry))) + length (rows (now (later .entry))) ≤ version1 .points
         → BandIs (settingOf frame surface options period sense) (heldIn (now (first .entry)) (now (later .entry)) «first_falls» «later_falls» (pieces (now (counts .entry)) (rows (now (holes .entry)))))
         r (now (t .exit)) (pieces (now (counts .entry)) (rows (now (holes .exit))))) ⌝ }
 {
@@ -202,7 +202,7 @@ fn band_between(
 
 // The loop that a record tells of into the front of dst, and five times its count, at most 2,560.
 fn take_ring(dst: &mut [f64], corners: &[f64], one: LoopRecord) -> usize
-    ensures { λ r. ⌜ r ≡ 5 * min (one .count) maxPoints ⌝ }
+    ensures { λ r. ⌜ r ≡ 5 * min (one .count) (version1 .points) ⌝ }
     ensures { λ r. ⌜ rows (now (dst .exit)) ≡ placed 0 (take (one .count) (drop (one .start) (rows (now (corners .entry))))) (rows (now (dst .entry))) ⌝ }
 {
     let n = one.count;
@@ -225,7 +225,7 @@ fn band_of(
     holes: &mut [f64],
     t: &mut [f64; 7680],
 ) -> Closing
-    ensures { λ r. ⌜ ((s : List ℕ) → BandFace s (now (corners .entry)) (now (given .entry)) loops frame surface options sense a b → maxPoints ≤ length (rows (now (holes .entry)))
+    ensures { λ r. ⌜ ((s : List ℕ) → BandFace s (now (corners .entry)) (now (given .entry)) loops frame surface options sense a b → version1 .points ≤ length (rows (now (holes .entry)))
         → BandIs (settingIn s) (givenIn s) r (now (t .exit)) (pieces (others a b (now (given .entry))) (rows (now (holes .exit))))) ⌝ }
 {
     let mut first = [0.0; 2560];
@@ -257,7 +257,7 @@ fn band_of(
 
 // The areas of the holes, as they were measured, into dst from its second place on.
 fn areas_behind(dst: &mut [f64], given: &[usize], loops: [LoopRecord; 16], a: usize, b: usize)
-    ensures { λ _. ⌜ ((period : Period) (corners : Corners Vec3) → length (now (given .entry)) ≤ maxLoops
+    ensures { λ _. ⌜ ((period : Period) (corners : Corners Vec3) → length (now (given .entry)) ≤ version1 .loops
         → loops ≡ placed 0 (recordsFrom period 0 (pieces (now (given .entry)) corners)) (replicate 16 noLoop)
         → now (dst .exit) ≡ placed 1 (others a b (map signedArea (pieces (now (given .entry)) corners))) (now (dst .entry))) ⌝ }
 {
@@ -291,7 +291,7 @@ fn fill_band(
     counts: &mut [usize; 16],
     areas: &mut [f64; 16],
 ) -> Filled
-    ensures { λ r. ⌜ ((s : List ℕ) → Accepted s → wrapping s ≡ 2 → now (given .entry) ≡ countsOf s → rows (now (corners .entry)) ≡ cornersIn s
+    ensures { λ r. ⌜ ((s : List ℕ) → Accepted version1 s → wrapping s ≡ 2 → now (given .entry) ≡ countsOf s → rows (now (corners .entry)) ≡ cornersIn s
         → loops ≡ placed 0 (recordsFrom (uPeriod surface) 0 (pieces (now (given .entry)) (rows (now (corners .entry))))) (replicate 16 noLoop)
         → now (wraps .entry) ≡ wrapsIn s → surface ≡ surfaceIn s → frame ≡ frameIn s → options ≡ optionsIn s → sense ≡ senseIn s
         → FillsTo (verdict stripConditions s) s r (now (counts .exit)) (now (areas .exit)) (now (t .exit))) ⌝ }

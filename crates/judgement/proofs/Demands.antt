@@ -22,10 +22,13 @@ use Rattle.bands.specs.Given.{Measured, only, givenOf}
 use Rattle.bands.proofs.Demand.{holes-as-many, demand3}
 use Rattle.bands.specs.Demand.{Whole, Demand3}
 use Rattle.records.specs.Bytes.{sum, byteAt, _<?_, _=?_}
+use Rattle.records.specs.Call as Call
 use Rattle.records.specs.Call.{Outcome, refused, closed, code, value, lentAfter}
 use Rattle.records.specs.Face.{loops}
-use Rattle.records.specs.Limits.{maxLoops, maxPoints, maxStrip}
-use Rattle.records.specs.Refusals.{nowhere, at, firstWhere, Condition, never, NoneHolds}
+use Rattle.records.specs.declared.limits.Limits.{Limits}
+use Rattle.records.specs.Encodable.{Encodable, mostCorners, version1-encodable}
+use Rattle.records.specs.Limits.{version1}
+use Rattle.records.specs.Refusals.{nowhere, at, firstWhere, Condition, never, conditions, NoneHolds}
 use Rattle.records.specs.Result.{All, none, and, Writable, encode, decode, loopPositionsOf, countOf, resultOf}
 use Rattle.records.proofs.Closing.{closed-accepted, closed-read, closed-length, closed-fits, lent-stays}
 use Rattle.records.proofs.Pieces.{loop-positions}
@@ -40,7 +43,7 @@ use Rattle.judgement.proofs.Each.{all-in, all-at, all-reverse, all-only
 use Rattle.judgement.proofs.Loops.{measured-many, loops-positions, measured-some, loops-wrap}
 use Rattle.judgement.proofs.Places.{place-small}
 use Rattle.judgement.proofs.Sizes.{only-none}
-use Rattle.judgement.proofs.Written.{Fine, result-fine, result-writable}
+use Rattle.judgement.proofs.Written.{Fine, fine-writable, result-fine}
 
 compared : (s : List ℕ) → PartialEquivalence (settingIn s .same)
 unfolding settingIn
@@ -71,11 +74,12 @@ module _ (s : List ℕ) (not-9 : oneRing s ≡ nowhere) (not-10 : manyRings s �
   pub two-wrap : (wrapping s ≡ 0 → ⊥) → wrapping s ≡ 2
   two-wrap some = let a = few-wrap in let b = not-one in omega arith
 
-module _ (lent : ℕ) (s : List ℕ) (none : NoneHolds (allConditions lent) s) where
-  pub strip-short : (wrapping s ≡ 0 → ⊥) → stripPoints s ≤ maxStrip
+module _ (L : Limits) (lent : ℕ) (s : List ℕ) (none : NoneHolds (conditions L lent ++ laterConditions L) s) where
+  pub strip-short : (wrapping s ≡ 0 → ⊥) → stripPoints s ≤ L .strip
   unfolding longStrip
   strip-short some =
-      ltb-false maxStrip (stripPoints s) (ap (λ (t : Bool). t && (maxStrip <? stripPoints s)) (sym (eq-eqb (wrapping s) 2 (two-wrap s (none 9) (none 10) some))) ∙ when-fails _ (stripPoints s) .0 (none 12))
+      ltb-false (L .strip) (stripPoints s)
+      (ap (λ (t : Bool). t && (L .strip <? stripPoints s)) (sym (eq-eqb (wrapping s) 2 (two-wrap s (none 9) (none 10) some))) ∙ when-fails _ (stripPoints s) .0 (none 12))
 
   -- ---- refusal 8: a loop that wraps ends where it begins
 
@@ -113,23 +117,27 @@ module _ (lent : ℕ) (s : List ℕ) (none : NoneHolds (allConditions lent) s) w
       later-meets = ring-meets 1 (omega arith);
     }
 
--- ---- the call
+-- ---- the call, by any limits whose results can be encoded
 
-module _ (lent : ℕ) (s b : List ℕ) (h : judge lent s ≡ closed b) where
-  pub passed : NoneHolds (allConditions lent) s
-  passed = closed-exactly laterConditions result lent s b .0 h .0
+module _ (L : Limits) (fit : Encodable L) (lent : ℕ) (s b : List ℕ) (h : Call.judge L (laterConditions L) result lent s ≡ closed b) where
+  pub passed : NoneHolds (conditions L lent ++ laterConditions L) s
+  passed = closed-exactly L (laterConditions L) result lent s b .0 h .0
 
-  fine : Fine (resultLoops s)
-  fine = let a = closed-accepted laterConditions resultIn lent s b h in result-fine s (a .loops-are) (a .total) (strip-short lent s passed)
+  pub written : b ≡ result s
+  written = closed-exactly L (laterConditions L) result lent s b .0 h .1
+
+  fine : Fine L (resultLoops s)
+  fine = let a = closed-accepted L (laterConditions L) resultIn lent s b h in result-fine L fit s (a .loops-are) (a .total) (strip-short L lent s passed)
 
   pub can-be-written : Writable (resultIn s)
-  can-be-written = let a = closed-accepted laterConditions resultIn lent s b h in result-writable s (a .loops-are) (a .total) (strip-short lent s passed)
+  unfolding resultIn
+  can-be-written = fine-writable L fit (pathIn s) (resultLoops s) fine
 
-  few-loops : length (resultIn s .counts) ≤ maxLoops + 1
+  few-loops : length (resultIn s .counts) ≤ L .loops + 1
   unfolding resultIn resultOf
   few-loops = let n = length-map (resultLoops s) countOf in let f = fine .few in omega arith
 
-  few-corners : sum (resultIn s .counts) ≤ maxStrip + maxPoints
+  few-corners : sum (resultIn s .counts) ≤ mostCorners L
   unfolding resultIn resultOf
   few-corners = fine .corners
 
@@ -137,30 +145,36 @@ module _ (lent : ℕ) (s b : List ℕ) (h : judge lent s ≡ closed b) where
   pub read-loops : (rest : List ℕ) → loopPositionsOf (decode (b ++ rest)) ≡ map (λ (l : ResultLoop). positions (l .corners)) (resultLoops s)
   unfolding resultIn
   read-loops rest =
-      ap loopPositionsOf (closed-read laterConditions resultIn lent s b h can-be-written rest) ∙ loop-positions uvOf xyzOf (pathIn s) (resultLoops s)
+      ap loopPositionsOf (closed-read L (laterConditions L) resultIn lent s b h can-be-written rest) ∙ loop-positions uvOf xyzOf (pathIn s) (resultLoops s)
 
-  pub written : b ≡ result s
-  written = closed-exactly laterConditions result lent s b .0 h .1
-
-  -- ---- demand 1, of a face that is closed
-
-  pub complete : (old : List ℕ) → Complete s old (length b) (b ++ drop (length b) old)
-  unfolding encode
-  complete old =
-      let rest = drop (length b) old in
-      record {
-        version-is = ap (λ (r : List ℕ). byteAt (r ++ rest) 0) written;
-        zero-is = ap (λ (r : List ℕ). byteAt (r ++ rest) 3) written;
-        read-back = closed-read laterConditions resultIn lent s b h can-be-written rest;
-        length-is = closed-length laterConditions resultIn lent s b h can-be-written rest;
-        inside = (let n = length-append b rest in omega arith);
-        fits = closed-fits laterConditions resultIn lent s b h can-be-written few-loops few-corners;
-        past-stays = drop-append-seam b rest;
-      }
+  -- the bytes that are to be lent are enough
+  lent-enough : length b ≤ L .result
+  lent-enough = closed-fits L (laterConditions L) resultIn lent s b h can-be-written fit few-loops few-corners
 
   -- the lent bytes keep their number
   kept : (old : List ℕ) → length old ≡ lent → length (b ++ drop (length b) old) ≡ lent
-  kept = lent-stays laterConditions resultIn lent s b h can-be-written few-loops few-corners
+  kept = lent-stays L (laterConditions L) resultIn lent s b h can-be-written fit few-loops few-corners
+
+-- ---- demand 1, of a face that is closed by the limits of version 1
+
+abbrev later : List Condition
+later = laterConditions version1
+
+pub complete : (lent : ℕ) (s b : List ℕ) → judge lent s ≡ closed b → (old : List ℕ) → Complete s old (length b) (b ++ drop (length b) old)
+unfolding encode
+complete lent s b h old =
+    let rest = drop (length b) old in
+    let is = written version1 version1-encodable lent s b h in
+    let can = can-be-written version1 version1-encodable lent s b h in
+    record {
+      version-is = ap (λ (r : List ℕ). byteAt (r ++ rest) 0) is;
+      zero-is = ap (λ (r : List ℕ). byteAt (r ++ rest) 3) is;
+      read-back = closed-read version1 later resultIn lent s b h can rest;
+      length-is = closed-length version1 later resultIn lent s b h can rest;
+      inside = (let n = length-append b rest in omega arith);
+      fits = lent-enough version1 version1-encodable lent s b h;
+      past-stays = drop-append-seam b rest;
+    }
 
 -- ---- demand 3
 
@@ -232,7 +246,7 @@ module _ (s old : List ℕ) where
   -- a refusal is not 0
   pub over-zero : (n p : ℕ) → judge lent s ≡ refused n p → 0 < n
   over-zero n p e =
-      let f = refused-exactly laterConditions result lent s n p .0 e in
+      let f = refused-exactly version1 later result lent s n p .0 e in
       subst (λ (m : ℕ). 0 < m) (f .numbered) (numbered s (all-numbered lent) (f .row) (f .holds))
 
   -- 01, demand 1, for each outcome; the record is one of bytes
@@ -241,34 +255,34 @@ module _ (s old : List ℕ) where
       let some = over-zero n p e in
       record {
         refused-exactly = λ m q. (
-          (λ r. refused-exactly laterConditions result lent s m q .0 (e ∙ ap (λ (k : ℕ). refused k p) (r .code-is) ∙ ap (refused m) (r .value-is))),
-          (λ f. let same : refused n p ≡ refused m q = sym e ∙ refused-exactly laterConditions result lent s m q .1 f in
+          (λ r. refused-exactly version1 later result lent s m q .0 (e ∙ ap (λ (k : ℕ). refused k p) (r .code-is) ∙ ap (refused m) (r .value-is))),
+          (λ f. let same : refused n p ≡ refused m q = sym e ∙ refused-exactly version1 later result lent s m q .1 f in
               let n-is : n ≡ m = cc in
               record { not-closed = omega arith; code-is = n-is; value-is = cc }),
         );
         closed-exactly = (
           (λ z. absurd (omega arith)),
-          (λ none. let same : refused n p ≡ closed (result s) = sym e ∙ closed-exactly laterConditions result lent s (result s) .1 (none, refl) in
+          (λ none. let same : refused n p ≡ closed (result s) = sym e ∙ closed-exactly version1 later result lent s (result s) .1 (none, refl) in
               let z : _≡_ {A = ℕ} 0 1 = cc in
               absurd (omega arith)),
         );
         refused-stays = λ h. refl;
-        refused-fits = λ h. let f = place-small lent s byte p n e in omega arith;
+        refused-fits = λ h. let f = place-small version1 version1-encodable lent s byte p n e in omega arith;
         closed-complete = λ z. absurd (omega arith);
         as-many = refl;
       }
   demand-1-of byte (closed b) e = record {
     refused-exactly = λ m q. (
       (λ r. absurd (omega arith)),
-      (λ f. let same : closed b ≡ refused m q = sym e ∙ refused-exactly laterConditions result lent s m q .1 f in
+      (λ f. let same : closed b ≡ refused m q = sym e ∙ refused-exactly version1 later result lent s m q .1 f in
           let z : _≡_ {A = ℕ} 0 1 = cc in
           absurd (omega arith)),
     );
-    closed-exactly = ((λ z. passed lent s b e), (λ none. refl));
+    closed-exactly = ((λ z. passed version1 version1-encodable lent s b e), (λ none. refl));
     refused-stays = λ h. absurd (omega arith);
     refused-fits = λ h. absurd (omega arith);
     closed-complete = λ z. complete lent s b e old;
-    as-many = kept lent s b e old refl;
+    as-many = kept version1 version1-encodable lent s b e old refl;
   }
 
   pub demand-1 : getD s 2 0 < 256 → Demand1 s old (code (judge lent s)) (value (judge lent s)) (lentAfter (judge lent s) old)
@@ -278,9 +292,9 @@ module _ (s old : List ℕ) where
   band-of : (b : List ℕ) → judge lent s ≡ closed b → (rest : List ℕ) → wrapping s ≡ 2
       → Demand3 (settingIn s) (givenIn s) (outerPositions (b ++ rest)) (holePositions (b ++ rest))
   band-of b h rest two =
-      let read = read-loops lent s b h rest ∙ ap (map (λ (l : ResultLoop). positions (l .corners))) (takes-wrapped s two) ∙ wrapped-positions s two in
+      let read = read-loops version1 version1-encodable lent s b h rest ∙ ap (map (λ (l : ResultLoop). positions (l .corners))) (takes-wrapped s two) ∙ wrapped-positions s two in
       subst (λ (ls : List (List Vec3)). Demand3 (settingIn s) (givenIn s) (getD ls 0 []) (drop 1 ls)) (sym read)
-      (demand3 (settingIn s) (compared s) (givenIn s) (rings-whole lent s (passed lent s b h) two))
+      (demand3 (settingIn s) (compared s) (givenIn s) (rings-whole version1 lent s (passed version1 version1-encodable lent s b h) two))
 
   demand-3-of : (o : Outcome) → judge lent s ≡ o → BandDemand s (code o) (lentAfter o old)
   unfolding encode resultIn resultOf
@@ -294,11 +308,11 @@ module _ (s old : List ℕ) where
         band = λ z. absurd (omega arith);
       }
   demand-3-of (closed b) e =
-      let free = passed lent s b e in
+      let free = passed version1 version1-encodable lent s b e in
       record {
         all-given = loops-positions s;
         same-is = same-set s;
-        path-is = λ z. subst (λ (n : ℕ). n ≡ 1 ↔ 0 < wrapping s) (sym (ap (λ (r : List ℕ). byteAt (r ++ drop (length b) old) 1) (written lent s b e))) (path-wraps s);
+        path-is = λ z. subst (λ (n : ℕ). n ≡ 1 ↔ 0 < wrapping s) (sym (ap (λ (r : List ℕ). byteAt (r ++ drop (length b) old) 1) (written version1 version1-encodable lent s b e))) (path-wraps s);
         two-wrap = λ z some. two-wrap s (free 9) (free 10) (λ none. omega arith);
         band = λ z. band-of b e (drop (length b) old);
       }

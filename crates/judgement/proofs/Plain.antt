@@ -10,7 +10,8 @@ use Rattle.loops.specs.Rings.{endsMeet}
 use Rattle.tables.specs.Corners.{positions}
 use Rattle.records.specs.Bytes.{_<?_, _≤?_, _=?_}
 use Rattle.records.specs.Face.{kind, loops}
-use Rattle.records.specs.Limits.{cone, maxStrip}
+use Rattle.records.specs.declared.limits.Limits.{Limits}
+use Rattle.records.specs.Limits.{cone}
 use Rattle.records.specs.Refusals.{nowhere, at, firstWhere}
 use Rattle.records.proofs.Refused.{Says, below, refuted, when-exactly, first-exactly}
 use Rattle.records.proofs.Search.{nowhere≢at}
@@ -80,6 +81,7 @@ module _ (s : List ℕ) where
     unfolding openSurface
     refusal-11 = when-exactly _ (both (loops s =? 0) (kind s ≤? cone) (equal (loops s) 0) (atMost (kind s) cone)) 0 p
 
-    pub refusal-12 : longStrip s ≡ at p ↔ ((wrapping s ≡ 2) × (maxStrip < stripPoints s)) × (p ≡ stripPoints s)
+    pub refusal-12 : (L : Limits) → longStrip L s ≡ at p ↔ ((wrapping s ≡ 2) × (L .strip < stripPoints s)) × (p ≡ stripPoints s)
     unfolding longStrip
-    refusal-12 = when-exactly _ (both (wrapping s =? 2) (maxStrip <? stripPoints s) (equal (wrapping s) 2) (below maxStrip (stripPoints s))) (stripPoints s) p
+    refusal-12 L =
+        when-exactly _ (both (wrapping s =? 2) (L .strip <? stripPoints s) (equal (wrapping s) 2) (below (L .strip) (stripPoints s))) (stripPoints s) p

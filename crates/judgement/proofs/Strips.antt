@@ -30,6 +30,7 @@ use Rattle.bands.specs.Strip.{Setting, ladder, heights, wall, strip}
 use Rattle.bands.proofs.Lengths.{length-first, length-later}
 use Rattle.records.specs.Bytes.{_≤?_, _=?_}
 use Rattle.records.specs.Face.{kind, counts, points, realOf, vOf, cornersIn}
+use Rattle.records.specs.declared.limits.Limits.{Limits}
 use Rattle.records.specs.Accepted.{Accepted}
 use Rattle.records.specs.Limits.{64·0, 10^6, cone, holds, upTo, vRange}
 use Rattle.records.specs.Result.{All, none, and}
@@ -93,7 +94,7 @@ strip-few S n (l ∷ lower) (u ∷ upper) p q few =
     let d = length-reverse other in
     simp length-append (omega arith)
 
-module _ (s : List ℕ) (a : Accepted s) where
+module _ {L : Limits} (s : List ℕ) (a : Accepted L s) where
   -- the v of a sphere and a torus have a size up to 64
   abbrev pub Low : Float → Type 0
   Low v = cone < kind s → Within 64 v
@@ -175,7 +176,7 @@ module _ (s : List ℕ) (a : Accepted s) where
   unfolding lowerRing
   lower-short = picked-short (lowerFirst S (givenIn s))
 
-  pub strip-most : stripPoints s ≤ 285024
+  pub strip-most : stripPoints s ≤ 2 * L .points + 284000
   unfolding stripPoints stripOf
   strip-most =
       let n = strip-few S 141999 (lowerRing S (givenIn s)) (upperRing S (givenIn s)) lower-low upper-high

@@ -33,7 +33,8 @@ use Rattle.tables.specs.Corners.{Corner, Corners, us, vs, positions}
 use Rattle.bands.proofs.Demand.{holes-counts, holes-as-many}
 use Rattle.records.specs.Bytes.{sum, _=?_}
 use Rattle.records.specs.Face.{loops, points}
-use Rattle.records.specs.Limits.{maxLoops, maxPoints, maxStrip}
+use Rattle.records.specs.declared.limits.Limits.{Limits}
+use Rattle.records.specs.Encodable.{Encodable, mostCorners}
 use Rattle.records.specs.Result.{All, none, and, Fits, FitsUv, FitsXyz, Writable, Loop, cornersOf, countOf, resultOf}
 use Rattle.records.specs.Result as Result
 use Rattle.records.proofs.Pieces.{writable}
@@ -60,16 +61,16 @@ unfolding cornersOf
 all-corners none = none
 all-corners (and h hs) = all-append (h .corners) (all-corners hs)
 
--- ---- what can be written: within the limits, an outer loop and at most 16 holes with the corners of a strip and of all given points
+-- ---- what can be written: within the limits, an outer loop and a hole for each given loop with the corners of a strip and of all given points
 
-pub record Fine (ls : List ResultLoop) : Type 0 where
+pub record Fine (L : Limits) (ls : List ResultLoop) : Type 0 where
   pub some : 1 ≤ length ls
-  pub few : length ls ≤ maxLoops + 1
-  pub corners : sum (map countOf ls) ≤ maxStrip + maxPoints
+  pub few : length ls ≤ L .loops + 1
+  pub corners : sum (map countOf ls) ≤ mostCorners L
   pub fit : All FitsLoop ls
 
-fine-writable : (path : ℕ) (ls : List ResultLoop) → Fine ls → Writable (resultOf uvOf xyzOf path ls)
-fine-writable path ls f =
+pub fine-writable : (L : Limits) → Encodable L → (path : ℕ) (ls : List ResultLoop) → Fine L ls → Writable (resultOf uvOf xyzOf path ls)
+fine-writable L fit path ls f =
     let n = f .few in
     let c = f .corners in
     let cs = all-corners (f .fit) in
@@ -126,12 +127,12 @@ module _ (b : Branch) where
   rephased-counts [] = omega arith
   rephased-counts (l ∷ ls) = let a = hole-few l in let h = rephased-counts ls in omega arith
 
-module _ (s : List ℕ) (loops-are : loops s ≤ maxLoops) (points-are : points s ≤ maxPoints) where
+module _ (L : Limits) (s : List ℕ) (loops-are : loops s ≤ L .loops) (points-are : points s ≤ L .points) where
   rest-fits : (n : ℕ) → All FitsCorners (holesOf n (loopsIn s))
   unfolding holesOf
   rest-fits n = all-append (all-take n (loops-fit s)) (all-drop (n + 1) (loops-fit s))
 
-  closed-fine : Fine (closedLoops (uPeriodIn s) (vPeriodIn s) (loopsIn s))
+  closed-fine : Fine L (closedLoops (uPeriodIn s) (vPeriodIn s) (loopsIn s))
   unfolding closedLoops outerLoop sum
   closed-fine =
       let n : ℕ = outerNumber (loopsIn s) in
@@ -185,13 +186,13 @@ module _ (s : List ℕ) where
   unfolding settingIn
   ladders-fit lo hi n = inner-fit lo hi n
 
-module _ (s : List ℕ) (loops-are : loops s ≤ maxLoops) (points-are : points s ≤ maxPoints) (strip-is : stripPoints s ≤ maxStrip) where
-  outer-few : length (outer (settingIn s) (givenIn s)) ≤ maxStrip
+module _ (L : Limits) (s : List ℕ) (loops-are : loops s ≤ L .loops) (points-are : points s ≤ L .points) (strip-is : stripPoints s ≤ L .strip) where
+  outer-few : length (outer (settingIn s) (givenIn s)) ≤ L .strip
   unfolding outer stripPoints
   outer-few =
       let h = repeats-fewer (λ (a b : Corner Vec3). settingIn s .same (a .at) (b .at)) (stripOf (settingIn s) (givenIn s)) in omega arith
 
-  wrapped-fine : Fine (wrappedLoops s)
+  wrapped-fine : Fine L (wrappedLoops s)
   unfolding wrappedLoops sum
   wrapped-fine =
       let first = outer-few in
@@ -242,11 +243,11 @@ position-fits : (s : Surface) (f : Frame) (c : Vec2) → FitsXyz (positionOf s f
 unfolding positionOf
 position-fits s f c = point-fits f s _ _
 
-module _ (s : List ℕ) where
+module _ (L : Limits) (fit : Encodable L) (s : List ℕ) where
   abbrev cornerAt : Vec2 → Corner Vec3
   cornerAt c = record { u = c .u; v = c .v; at = positionOf (surfaceIn s) (frameIn s) c }
 
-  whole-fine : Fine (wholeLoop s ∷ [])
+  whole-fine : Fine L (wholeLoop s ∷ [])
   unfolding wholeLoop wholeArea sum
   whole-fine =
       let most = few-corners (surfaceIn s) (optionsIn s) in
@@ -263,16 +264,16 @@ module _ (s : List ℕ) where
 
   -- ---- the result
 
-  module _ (loops-are : loops s ≤ maxLoops) (points-are : points s ≤ maxPoints) (strip-is : (wrapping s ≡ 0 → ⊥) → stripPoints s ≤ maxStrip) where
-    pub result-fine : Fine (resultLoops s)
+  module _ (loops-are : loops s ≤ L .loops) (points-are : points s ≤ L .points) (strip-is : (wrapping s ≡ 0 → ⊥) → stripPoints s ≤ L .strip) where
+    pub result-fine : Fine L (resultLoops s)
     unfolding resultLoops
     result-fine = pick (loops s =? 0) (wrapping s =? 0) refl
       where
-        pick : (a b : Bool) → (wrapping s =? 0) ≡ b → Fine (cond a (wholeLoop s ∷ []) (cond b (closedLoops (uPeriodIn s) (vPeriodIn s) (loopsIn s)) (wrappedLoops s)))
+        pick : (a b : Bool) → (wrapping s =? 0) ≡ b → Fine L (cond a (wholeLoop s ∷ []) (cond b (closedLoops (uPeriodIn s) (vPeriodIn s) (loopsIn s)) (wrappedLoops s)))
         pick true b e = whole-fine
-        pick false true e = closed-fine s loops-are points-are
-        pick false false e = wrapped-fine s loops-are points-are (strip-is (eqb-false (wrapping s) 0 e))
+        pick false true e = closed-fine L s loops-are points-are
+        pick false false e = wrapped-fine L s loops-are points-are (strip-is (eqb-false (wrapping s) 0 e))
 
     pub result-writable : Writable (resultIn s)
     unfolding resultIn
-    result-writable = fine-writable (pathIn s) (resultLoops s) result-fine
+    result-writable = fine-writable L fit (pathIn s) (resultLoops s) result-fine

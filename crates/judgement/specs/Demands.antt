@@ -16,7 +16,7 @@ use Rattle.tables.specs.Corners.{positions}
 use Rattle.bands.specs.Demand.{Demand3}
 use Rattle.records.specs.Bytes.{byteAt}
 use Rattle.records.specs.Face.{loops, loopPositions}
-use Rattle.records.specs.Limits.{resultBytes}
+use Rattle.records.specs.Limits.{version1}
 use Rattle.records.specs.Refusals.{FirstToHold, NoneHolds}
 use Rattle.records.specs.Result.{decode, resultLength, holesIn, cornersIn, loopPositionsOf}
 use Rattle.judgement.specs.Face.{surfaceIn, loopsIn, wrapping, settingIn, givenIn}
@@ -36,7 +36,7 @@ pub record Complete (s old : List ℕ) (n : ℕ) (new : List ℕ) : Type 0 where
   pub length-is : n ≡ resultLength (holesIn new) (cornersIn new)
   -- the record lies within the lent bytes, and the 61,614 of refusal 1 are always enough
   pub inside : n ≤ length new
-  pub fits : n ≤ resultBytes
+  pub fits : n ≤ version1 .result
   -- "Bytes past that length keep their values."
   pub past-stays : drop n new ≡ drop n old
 

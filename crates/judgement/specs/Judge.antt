@@ -3,6 +3,7 @@ use Prim.Native.Nat.{ℕ}
 use mathlib.Core.List.{List, _++_}
 use Rattle.records.specs.Call as Call
 use Rattle.records.specs.Call.{Outcome}
+use Rattle.records.specs.Limits.{version1}
 use Rattle.records.specs.Refusals.{Condition, conditions}
 use Rattle.records.specs.Result.{encode}
 use Rattle.judgement.specs.Later.{laterConditions}
@@ -10,7 +11,7 @@ use Rattle.judgement.specs.Paths.{resultIn}
 
 -- the conditions of the refusals 1 to 12, in the order in which they are tested, where so many result bytes are lent
 abbrev pub allConditions : ℕ → List Condition
-allConditions lent = conditions lent ++ laterConditions
+allConditions lent = conditions version1 lent ++ laterConditions version1
 
 -- the result record of a face that none of them refuses
 abbrev pub result : List ℕ → List ℕ
@@ -18,4 +19,4 @@ result s = encode (resultIn s)
 
 -- what a call comes to that is given the face record s and lent so many result bytes
 abbrev pub judge : ℕ → List ℕ → Outcome
-judge lent s = Call.judge laterConditions result lent s
+judge lent s = Call.judge version1 (laterConditions version1) result lent s

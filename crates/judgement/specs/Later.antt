@@ -1,4 +1,5 @@
 -- 01, "The face record": the refusals 8 to 12, the conditions of a face that the refusals 1 to 7 let pass, in the order in which they are tested.
+-- The limit of 12 is that of any limits L; its number in the quote is that of version 1.
 use Prim.Native.Nat.{ℕ}
 use mathlib.Core.Bool.{Bool, not, cond, _&&_}
 use mathlib.Core.List.{List, [], _∷_}
@@ -12,7 +13,8 @@ use Rattle.tables.specs.Corners.{positions}
 use Rattle.bands.specs.Given.{Measured}
 use Rattle.records.specs.Bytes.{_<?_, _≤?_, _=?_}
 use Rattle.records.specs.Face.{kind, loops}
-use Rattle.records.specs.Limits.{cone, maxStrip}
+use Rattle.records.specs.declared.limits.Limits.{Limits}
+use Rattle.records.specs.Limits.{cone}
 use Rattle.records.specs.Refusals.{Place, nowhere, when, firstWhere, Condition, _on_}
 use Rattle.judgement.specs.Face.{measuredIn, isWrapping, wrapping, settingIn, givenIn}
 
@@ -44,15 +46,15 @@ unfoldable pub stripPoints : List ℕ → ℕ
 stripPoints s = length (stripOf (settingIn s) (givenIn s))
 
 -- "12, points: the strip, before repeats are dropped, has over 1,024"
-unfoldable pub longStrip : List ℕ → Place
-longStrip s = when (wrapping s =? 2 && (maxStrip <? stripPoints s)) (stripPoints s)
+unfoldable pub longStrip : Limits → List ℕ → Place
+longStrip L s = when (wrapping s =? 2 && (L .strip <? stripPoints s)) (stripPoints s)
 
 -- "Checks run in that order"
-abbrev pub laterConditions : List Condition
-laterConditions =
+abbrev pub laterConditions : Limits → List Condition
+laterConditions L =
     8 on openRing
     ∷ 9 on oneRing
     ∷ 10 on manyRings
     ∷ 11 on openSurface
-    ∷ 12 on longStrip
+    ∷ 12 on longStrip L
     ∷ []

@@ -29,6 +29,7 @@ use Rattle.tables.specs.Corners.{Corner, Corners}
 use Rattle.bands.specs.Given.{wraps}
 use Rattle.bands.specs.Rings.{started, reseam, laid}
 use Rattle.bands.specs.Strip.{Setting, ladder, heights, wall, strip}
+use Rattle.records.specs.declared.limits.Limits.{Limits}
 use Rattle.records.specs.Accepted.{Accepted}
 use Rattle.records.specs.Face.{kind, realOf}
 use Rattle.records.specs.Limits.{plane}
@@ -86,7 +87,7 @@ lift-within H few p (inr e) withL withU meanL meanU v h = subst (λ (q : Period)
     at-lift false = within-more H (H + 7) v (omega arith) h
 
 -- v is given up to H, and no rung passes B
-module _ (s : List ℕ) (a : Accepted s) (H B : ℕ) (given : H ≤ Million) (room : 3 * (H + 7) ≤ B) (most : B ≤ 2 ^ 22) where
+module _ {L : Limits} (s : List ℕ) (a : Accepted L s) (H B : ℕ) (given : H ≤ Million) (room : 3 * (H + 7) ≤ B) (most : B ≤ 2 ^ 22) where
   abbrev S : Setting Vec3
   S = settingIn s
 

@@ -21,6 +21,7 @@ use Rattle.surfaces.specs.Domains.{uPeriod, vPeriod}
 use Rattle.surfaces.proofs.surface.Points.{Sizes}
 use Rattle.lists.specs.Pieces.{pieces}
 use Rattle.tables.specs.Corners.{Corner, Corners, positions, cornersFrom}
+use Rattle.records.specs.declared.limits.Limits.{Limits}
 use Rattle.records.specs.Accepted.{Accepted}
 use Rattle.records.specs.Bytes.{u16At, sum, _=?_}
 use Rattle.records.specs.Face.{headReals, kind, loops, counts, points, realOf, parameters, uOf, vOf, cornersIn}
@@ -119,7 +120,7 @@ either-v (Torus R r) = inr refl
 
 -- ---- the record
 
-module _ (s : List ℕ) (a : Accepted s) where
+module _ {L : Limits} (s : List ℕ) (a : Accepted L s) where
   head-at : (i : ℕ) → i < headReals → holds (headRange (kind s) i) (realOf s i) ≡ true
   head-at i h = ap (λ (r : Range). holds r (realOf s i)) (sym (range-head (kind s) (points s) i h)) ∙ a .in-range i (omega arith)
 

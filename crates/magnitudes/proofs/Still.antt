@@ -22,7 +22,8 @@ use Rattle.tables.specs.Corners.{Corner, positions}
 use Rattle.records.specs.Bytes.{byteAt, _≤?_, _=?_}
 use Rattle.records.specs.Call.{Outcome, refused, closed, code, lentAfter}
 use Rattle.records.specs.Face.{loops, kind}
-use Rattle.records.specs.Limits.{cone}
+use Rattle.records.specs.Encodable.{version1-encodable}
+use Rattle.records.specs.Limits.{version1, cone}
 use Rattle.records.specs.Refusals.{nowhere, NoneHolds}
 use Rattle.records.specs.Result.{Result, encode, loopPositionsOf, decode, cornersOf, resultOf}
 use Rattle.records.proofs.Closing.{closed-accepted, closed-read}
@@ -85,7 +86,7 @@ module _ (s : List ℕ) (none : loops s ≡ 0) where
   read-whole : (lent : ℕ) (b : List ℕ) → judge lent s ≡ closed b → (rest : List ℕ)
       → loopPositionsOf (decode (b ++ rest)) ≡ wholePositions (surfaceIn s) (frameIn s) (optionsIn s) ∷ []
   read-whole lent b h rest =
-      read-loops lent s b h rest ∙ ap (map (λ (l : ResultLoop). positions (l .corners))) takes-whole
+      read-loops version1 version1-encodable lent s b h rest ∙ ap (map (λ (l : ResultLoop). positions (l .corners))) takes-whole
       ∙ ap (λ (ps : List Vec3). ps ∷ []) whole-positions
 
   -- its parameters, as they are read
@@ -101,7 +102,7 @@ module _ (s : List ℕ) (none : loops s ≡ 0) where
   read-parameters : (lent : ℕ) (b : List ℕ) → judge lent s ≡ closed b → (rest : List ℕ)
       → decode (b ++ rest) .parameters ≡ wholeCorners (surfaceIn s) (optionsIn s)
   read-parameters lent b h rest =
-      ap (λ (r : Result). r .parameters) (closed-read laterConditions resultIn lent s b h (can-be-written lent s b h) rest) ∙ whole-parameters
+      ap (λ (r : Result). r .parameters) (closed-read version1 (laterConditions version1) resultIn lent s b h (can-be-written version1 version1-encodable lent s b h) rest) ∙ whole-parameters
 
 whole-many : (s : List ℕ) → length (wholePositions (surfaceIn s) (frameIn s) (optionsIn s)) ≡ length (wholeCorners (surfaceIn s) (optionsIn s))
 unfolding wholePositions
@@ -127,10 +128,10 @@ module _ (s old : List ℕ) where
       }
   whole-of (closed b) e =
       let rest = drop (length b) old in
-      let accepted = closed-accepted laterConditions resultIn lent s b e in
-      let not-11 : openSurface s ≡ nowhere = passed lent s b e 11 in
+      let accepted = closed-accepted version1 (laterConditions version1) resultIn lent s b e in
+      let not-11 : openSurface s ≡ nowhere = passed version1 version1-encodable lent s b e 11 in
       record {
-        path-is = λ z. subst (λ (n : ℕ). n ≡ 2 ↔ loops s ≡ 0) (sym (ap (λ (r : List ℕ). byteAt (r ++ rest) 1) (written lent s b e))) (path-whole s);
+        path-is = λ z. subst (λ (n : ℕ). n ≡ 2 ↔ loops s ≡ 0) (sym (ap (λ (r : List ℕ). byteAt (r ++ rest) 1) (written version1 version1-encodable lent s b e))) (path-whole s);
         kind-is = λ z none. whole-kind s none not-11;
         no-hole = λ z none. ap (drop 1) (read-whole s none lent b e rest);
         still = λ z none p q.

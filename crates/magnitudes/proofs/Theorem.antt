@@ -26,7 +26,8 @@ use Rattle.records.specs.Accepted.{Accepted}
 use Rattle.records.specs.Bytes.{_=?_}
 use Rattle.records.specs.Call.{Outcome, refused, closed, code, lentAfter}
 use Rattle.records.specs.Face.{kind, loops, realOf}
-use Rattle.records.specs.Limits.{plane, cone}
+use Rattle.records.specs.Encodable.{version1-encodable}
+use Rattle.records.specs.Limits.{version1, plane, cone}
 use Rattle.records.specs.Refusals.{NoneHolds}
 use Rattle.records.specs.Result.{Result, All, none, and, decode, cornersOf, resultOf}
 use Rattle.records.specs.Result as Result
@@ -127,7 +128,7 @@ loop-more A B A′ B′ h k l w = record {
   corners = all-so (λ c r. record { u = within-more A A′ (c .u) h (r .u); v = within-more B B′ (c .v) k (r .v); at = r .at }) (w .corners);
 }
 
-module _ (s : List ℕ) (a : Accepted s) where
+module _ (s : List ℕ) (a : Accepted version1 s) where
   abbrev G : ℕ
   G = givenU (kind s)
 
@@ -187,7 +188,7 @@ module _ (s : List ℕ) (a : Accepted s) where
     rings-given =
         let near = loops-near (curved s some) in
         let each = given-each s (λ (c : Corner Vec3). Known 64 (c .u)) near in
-        let whole = rings-whole lent s free (two-wrap s (free 9) (free 10) some) in
+        let whole = rings-whole version1 lent s free (two-wrap s (free 9) (free 10) some) in
         record {
           first = record { some = whole .some-first; each = each .first };
           later = record { some = whole .some-later; each = each .later };
@@ -202,7 +203,7 @@ module _ (s : List ℕ) (a : Accepted s) where
     unfolding outer stripPoints
     outer-few =
         let h = repeats-fewer (λ (c d : Corner Vec3). settingIn s .same (c .at) (d .at)) (stripOf (settingIn s) (givenIn s)) in
-        let n = strip-short lent s free some in
+        let n = strip-short version1 lent s free some in
         omega arith
 
     -- v and the positions as given
@@ -255,8 +256,8 @@ result-within A B path h =
 bytes-within : (lent : ℕ) (s b : List ℕ) → judge lent s ≡ closed b → (rest : List ℕ) → Held (mostU (kind s)) (mostV (kind s)) (decode (b ++ rest))
 unfolding resultIn
 bytes-within lent s b h rest =
-    subst (Held (mostU (kind s)) (mostV (kind s))) (sym (closed-read laterConditions resultIn lent s b h (can-be-written lent s b h) rest))
-    (result-within (mostU (kind s)) (mostV (kind s)) (pathIn s) (loops-of-result s (closed-accepted laterConditions resultIn lent s b h) lent (passed lent s b h)))
+    subst (Held (mostU (kind s)) (mostV (kind s))) (sym (closed-read version1 (laterConditions version1) resultIn lent s b h (can-be-written version1 version1-encodable lent s b h) rest))
+    (result-within (mostU (kind s)) (mostV (kind s)) (pathIn s) (loops-of-result s (closed-accepted version1 (laterConditions version1) resultIn lent s b h) lent (passed version1 version1-encodable lent s b h)))
 
 -- all are below 10 ^ 24
 far-below : (A B : ℕ) → A ≤ 10 ^ 24 → B ≤ 10 ^ 24 → (r : Result) → Held A B r → EachReal (Within (10 ^ 24)) (Within (10 ^ 24)) (Within (10 ^ 24)) (Within (10 ^ 24)) r

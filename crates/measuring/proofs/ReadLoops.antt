@@ -12,6 +12,7 @@ use Rattle.tables.specs.Rows.{rows}
 use Rattle.tables.proofs.Rows.{rows-take}
 use Rattle.records.specs.declared.read.Read.{Read}
 use Rattle.records.specs.declared.read.Read.the-variants.{Count}
+use Rattle.records.specs.declared.limits.Limits.{Limits}
 use Rattle.records.specs.Accepted.{Accepted}
 use Rattle.records.specs.Face.{headerSize, headReals, loops, counts, head, points, realPlace, needed, cornersIn}
 use Rattle.records.specs.Lent.{filledIf, readIf, countsThere, countsFit, headFits, pointsFit, CountsRead, HeadRead, CornersRead}
@@ -21,7 +22,7 @@ front-of : {A : Type 0} (fits : Bool) (w d d′ : List A) (n : ℕ) → fits ≡
 unfolding filledIf
 front-of fits w d d′ n t e f = ap (take n) (f ∙ rw t) ∙ take-at w (drop (length w) d) n e
 
-module _ (s : List ℕ) (a : Accepted s) where
+module _ {L : Limits} (s : List ℕ) (a : Accepted L s) where
   counts-fit : (room : ℕ) → loops s ≤ room → countsFit s room ≡ true
   unfolding countsFit countsThere
   counts-fit room h = let w = a .whole in rw (le-leb (headerSize + 2 * loops s) (length s) (omega arith), le-leb (loops s) room h)

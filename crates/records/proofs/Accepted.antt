@@ -13,7 +13,8 @@ use Rattle.numbers.specs.declared.math.Vec2.{Vec2}
 use Rattle.numbers.specs.declared.math.Vec3.{Vec3}
 use Rattle.records.specs.Bytes.{_<?_, _=?_, u16At, numberAt, realAt, uvAt, xyzAt, rowAt, sum}
 use Rattle.records.specs.Face.{headerSize, headReals, version, kind, loops, sense, segments, count, counts, start, points, reals, needed, realOf, realPlace, parameters, positions}
-use Rattle.records.specs.Limits.{maxLoops, minPoints, maxPoints, Range, _to_, finite, holds, uRange, vRange, xyzRange, range}
+use Rattle.records.specs.declared.limits.Limits.{Limits}
+use Rattle.records.specs.Limits.{minPoints, Range, _to_, finite, holds, uRange, vRange, xyzRange, range}
 use Rattle.records.specs.Refusals.{Place, nowhere, at, when, firstFrom, firstWhere, Verdict, passes, verdict, recordConditions, wrongByte, wrongHeader, tooManyLoops, endsInCounts, tooFewPoints, tooManyPoints, wrongLength, badReal, firstBadReal}
 use Rattle.records.specs.Accepted.{Accepted}
 use Rattle.records.specs.Result.{All, none, and, Fits, FitsUv, FitsXyz}
@@ -44,26 +45,27 @@ module _ (s : List ℕ) where
       go false e = first-fails (wrongByte s) headerSize .0 e
 
   -- the total of all loops is the running total of the last
-  pub last-total : (l : ℕ) → ((k : ℕ) → k < l → start s (suc k) ≤ maxPoints) → start s l ≤ maxPoints
+  pub last-total : (most l : ℕ) → ((k : ℕ) → k < l → start s (suc k) ≤ most) → start s l ≤ most
   unfolding start
-  last-total zero h = omega arith
-  last-total (suc l) h = h l (omega arith)
+  last-total most zero h = omega arith
+  last-total most (suc l) h = h l (omega arith)
 
-  accepted→ : verdict recordConditions s ≡ passes → Accepted s
+  accepted→ : (L : Limits) → verdict (recordConditions L) s ≡ passes → Accepted L s
   unfolding tooManyLoops tooFewPoints tooManyPoints wrongLength firstBadReal badReal wrongByte
-  accepted→ e =
-      let none = verdict-passes s recordConditions .0 e in
+  accepted→ L e =
+      let none = verdict-passes s (recordConditions L) .0 e in
       let byte = header-bytes (none 0) in
       let segments-are = byte 4 (omega arith) in
       record {
         version-is = eqb-true (version s) 1 (not-false _ (byte 0 (omega arith)));
         kind-is = ltb-false 4 (kind s) (byte 1 (omega arith));
-        loops-are = ltb-false maxLoops (loops s) (when-fails _ (loops s) .0 (none 1));
+        loops-are = ltb-false (L .loops) (loops s) (when-fails _ (loops s) .0 (none 1));
         sense-is = ltb-false 1 (sense s) (byte 3 (omega arith));
         some-segments = ltb-false (segments s) 1 (or-left _ _ segments-are);
         few-segments = ltb-false 64 (segments s) (or-right (segments s <? 1) _ segments-are);
         each-loop = λ k l. ltb-false (count s k) minPoints (first-fails (λ i. count s i <? minPoints) (loops s) .0 (none 3) k l);
-        total = last-total (loops s) (λ k l. ltb-false maxPoints (start s (suc k)) (first-fails (λ i. maxPoints <? start s (suc i)) (loops s) .0 (none 4) k l));
+        total = last-total (L .points) (loops s)
+            (λ k l. ltb-false (L .points) (start s (suc k)) (first-fails (λ i. L .points <? start s (suc i)) (loops s) .0 (none 4) k l));
         whole = eqb-true (length s) (needed s) (not-false _ (when-fails _ (needed s) .0 (none 5)));
         in-range = λ i l. not-false _ (first-fails (badReal s) (reals s) .0 (none 6) i l);
       }
@@ -79,7 +81,7 @@ module _ (s : List ℕ) where
   pub start-below : (k n : ℕ) → k ≤ n → start s k ≤ start s n
   start-below k n h = let e : k + (n - k) ≡ n = omega arith in rw e at (start-up k (n - k))
 
-  module _ (a : Accepted s) where
+  module _ (L : Limits) (a : Accepted L s) where
     header-right : wrongHeader s ≡ nowhere
     unfolding wrongHeader wrongByte firstFrom
     header-right =
@@ -93,17 +95,17 @@ module _ (s : List ℕ) where
           le-ltb 64 (segments s) (a .few-segments),
         )
 
-    accepted← : verdict recordConditions s ≡ passes
+    accepted← : verdict (recordConditions L) s ≡ passes
     unfolding verdict tooManyLoops endsInCounts tooFewPoints tooManyPoints wrongLength firstBadReal badReal
     accepted← =
         let w = a .whole in
         let enough = first-fails (λ i. count s i <? minPoints) (loops s) .1 (λ k h. le-ltb (count s k) minPoints (a .each-loop k h)) in
-        let fits = first-fails (λ i. maxPoints <? start s (suc i)) (loops s) .1
-        (λ k h. le-ltb maxPoints (start s (suc k)) (let u = start-below (suc k) (loops s) h in let v = a .total in omega arith)) in
+        let fits = first-fails (λ i. L .points <? start s (suc i)) (loops s) .1
+        (λ k h. le-ltb (L .points) (start s (suc k)) (let u = start-below (suc k) (loops s) h in let v = a .total in omega arith)) in
         let right = first-fails (badReal s) (reals s) .1 (λ i h. ap not (a .in-range i h)) in
         rw (
           header-right,
-          le-ltb maxLoops (loops s) (a .loops-are),
+          le-ltb (L .loops) (loops s) (a .loops-are),
           le-ltb (length s) (headerSize + 2 * loops s) (omega arith),
           enough,
           fits,
@@ -111,8 +113,8 @@ module _ (s : List ℕ) where
           right,
         )
 
-  pub accepted-exactly : verdict recordConditions s ≡ passes ↔ Accepted s
-  accepted-exactly = (accepted→, accepted←)
+  pub accepted-exactly : (L : Limits) → verdict (recordConditions L) s ≡ passes ↔ Accepted L s
+  accepted-exactly L = (accepted→ L, accepted← L)
 
 -- ---- the points of an accepted record
 
@@ -125,7 +127,7 @@ pub record InRangeXyz (p : Vec3) : Type 0 where
   pub y : holds xyzRange (p .y) ≡ true
   pub z : holds xyzRange (p .z) ≡ true
 
-module _ (s : List ℕ) (a : Accepted s) where
+module _ {L : Limits} (s : List ℕ) (a : Accepted L s) where
   -- real i stands at place p and has range R
   in-range-at : (i p : ℕ) (R : Range) → i < reals s → range (kind s) (points s) i ≡ R → realPlace s i ≡ p → holds R (realAt s p) ≡ true
   in-range-at i p R h e f = rw (e, f) at (a .in-range i h)

@@ -7,9 +7,10 @@ use native.Mathlib.Omega.{arith}
 use lib.ListN.{length, drop, length-append, length-drop}
 use borrow.Author.Tests.{ltb-false}
 use Rattle.records.specs.Bytes.{sum}
-use Rattle.records.specs.Limits.{maxLoops, maxPoints, maxStrip, resultBytes}
+use Rattle.records.specs.declared.limits.Limits.{Limits}
 use Rattle.records.specs.Refusals.{nowhere, Condition, conditions, recordConditions, tooFewLent, NoneHolds}
 use Rattle.records.specs.Accepted.{Accepted}
+use Rattle.records.specs.Encodable.{Encodable, mostCorners}
 use Rattle.records.specs.Result.{Result, encode, decode, resultLength, holesIn, cornersIn, Writable}
 use Rattle.records.specs.Call.{closed, judge, lentAfter}
 use Rattle.records.proofs.Search.{when-fails}
@@ -22,22 +23,22 @@ front-none [] ds s h j = refl
 front-none (c ∷ cs) ds s h zero = h 0
 front-none (c ∷ cs) ds s h (suc j) = front-none cs ds s (λ i. h (suc i)) j
 
-enough : (lent : ℕ) (s : List ℕ) → tooFewLent lent s ≡ nowhere → resultBytes ≤ lent
+enough : (L : Limits) (lent : ℕ) (s : List ℕ) → tooFewLent L lent s ≡ nowhere → L .result ≤ lent
 unfolding tooFewLent
-enough lent s e = ltb-false lent resultBytes (when-fails _ resultBytes .0 e)
+enough L lent s e = ltb-false lent (L .result) (when-fails _ (L .result) .0 e)
 
-module _ (more : List Condition) (face : List ℕ → Result) (lent : ℕ) (s b : List ℕ) (h : judge more (λ r. encode (face r)) lent s ≡ closed b) where
-  none : NoneHolds (conditions lent ++ more) s
-  none = closed-exactly more (λ r. encode (face r)) lent s b .0 h .0
+module _ (L : Limits) (more : List Condition) (face : List ℕ → Result) (lent : ℕ) (s b : List ℕ) (h : judge L more (λ r. encode (face r)) lent s ≡ closed b) where
+  none : NoneHolds (conditions L lent ++ more) s
+  none = closed-exactly L more (λ r. encode (face r)) lent s b .0 h .0
 
   pub closed-is : b ≡ encode (face s)
-  closed-is = closed-exactly more (λ r. encode (face r)) lent s b .0 h .1
+  closed-is = closed-exactly L more (λ r. encode (face r)) lent s b .0 h .1
 
-  pub closed-lent : resultBytes ≤ lent
-  closed-lent = enough lent s (none 0)
+  pub closed-lent : L .result ≤ lent
+  closed-lent = enough L lent s (none 0)
 
-  pub closed-accepted : Accepted s
-  closed-accepted = accepted-exactly s .0 (verdict-passes s recordConditions .1 (front-none recordConditions more s (λ j. none (suc j))))
+  pub closed-accepted : Accepted L s
+  closed-accepted = accepted-exactly s L .0 (verdict-passes s (recordConditions L) .1 (front-none (recordConditions L) more s (λ j. none (suc j))))
 
   module _ (w : Writable (face s)) where
     -- read from the lent bytes, whatever stands behind the record
@@ -48,9 +49,9 @@ module _ (more : List Condition) (face : List ℕ → Result) (lent : ℕ) (s b 
     pub closed-length : (rest : List ℕ) → length b ≡ resultLength (holesIn (b ++ rest)) (cornersIn (b ++ rest))
     closed-length rest = rw closed-is (length-read (face s) w rest)
 
-    module _ (few : length (face s .counts) ≤ maxLoops + 1) (corners : sum (face s .counts) ≤ maxStrip + maxPoints) where
-      pub closed-fits : length b ≤ resultBytes
-      closed-fits = rw closed-is (encode-fits (face s) w few corners)
+    module _ (fit : Encodable L) (few : length (face s .counts) ≤ L .loops + 1) (corners : sum (face s .counts) ≤ mostCorners L) where
+      pub closed-fits : length b ≤ L .result
+      closed-fits = rw closed-is (encode-fits (face s) w L fit few corners)
 
       pub lent-stays : (old : List ℕ) → length old ≡ lent → length (lentAfter (closed b) old) ≡ lent
       lent-stays old e =

@@ -9,7 +9,8 @@ use lib.ListN.{length}
 use borrow.Author.Tests.{lt-ltb, le-ltb, eq-eqb, ne-eqb, ltb-false, eqb-true, not-false}
 use Rattle.records.specs.Bytes.{_<?_}
 use Rattle.records.specs.Face.{headerSize, loops, count, start, points, needed}
-use Rattle.records.specs.Limits.{maxLoops, minPoints, maxPoints}
+use Rattle.records.specs.declared.limits.Limits.{Limits}
+use Rattle.records.specs.Limits.{minPoints}
 use Rattle.records.specs.Refusals.{nowhere, at, firstWhere, wrongByte, wrongHeader, tooManyLoops, endsInCounts, tooFewPoints, tooManyPoints, wrongLength}
 use Rattle.records.proofs.Search.{nowhere≢at, when-fails, Seeking, seek-start, seek-turn, seek-found, seek-end}
 
@@ -38,15 +39,16 @@ module _ {s : List ℕ} where
 
 -- ---- 3 and the halves of 6, where the code has the numbers l and n
 
+module _ (L : Limits) (s : List ℕ) where
+  pub many-loops : {l : ℕ} → l ≡ loops s → L .loops < l → at l ≡ tooManyLoops L s
+  unfolding tooManyLoops
+  many-loops e h = rw (e, lt-ltb (L .loops) (loops s) (omega arith))
+
+  pub few-loops : {l : ℕ} → l ≡ loops s → l ≤ L .loops → nowhere ≡ tooManyLoops L s
+  unfolding tooManyLoops
+  few-loops e h = rw (le-ltb (L .loops) (loops s) (omega arith))
+
 module _ (s : List ℕ) where
-  pub many-loops : {l : ℕ} → l ≡ loops s → maxLoops < l → at l ≡ tooManyLoops s
-  unfolding tooManyLoops
-  many-loops e h = rw (e, lt-ltb maxLoops (loops s) (omega arith))
-
-  pub few-loops : {l : ℕ} → l ≡ loops s → l ≤ maxLoops → nowhere ≡ tooManyLoops s
-  unfolding tooManyLoops
-  few-loops e h = rw (le-ltb maxLoops (loops s) (omega arith))
-
   pub in-counts : {n : ℕ} → n ≡ headerSize + 2 * loops s → length s < n → at n ≡ endsInCounts s
   unfolding endsInCounts
   in-counts e h = rw (e, lt-ltb (length s) (headerSize + 2 * loops s) (omega arith))
@@ -101,38 +103,38 @@ module _ (s : List ℕ) {k : ℕ} (w : Seeking (fewAt s) (loops s) k) where
 
 -- ---- 5
 
-abbrev pub manyAt : List ℕ → ℕ → Bool
-manyAt s k = maxPoints <? start s (suc k)
+abbrev pub manyAt : Limits → List ℕ → ℕ → Bool
+manyAt L s k = L .points <? start s (suc k)
 
--- `total` is that of the loops before k, and it has not passed the limit
-pub record Totalling (s : List ℕ) (total k : ℕ) : Type 0 where
+-- `total` is that of the loops before k, and it has not passed the limit; a count has two bytes, so it fits whatever the limit is
+pub record Totalling (L : Limits) (s : List ℕ) (total k : ℕ) : Type 0 where
   pub is : total ≡ start s k
-  pub small : total ≤ maxPoints
-  pub seeking : Seeking (manyAt s) (loops s) k
+  pub small : total ≤ 65535 * k
+  pub seeking : Seeking (manyAt L s) (loops s) k
 
-pub total-start : {s : List ℕ} → Totalling s 0 0
+pub total-start : {L : Limits} {s : List ℕ} → Totalling L s 0 0
 unfolding start
 total-start = record { is = refl; small = omega arith; seeking = seek-start }
 
-module _ {s : List ℕ} {total k : ℕ} (w : Totalling s total k) where
+module _ {L : Limits} {s : List ℕ} {total k : ℕ} (w : Totalling L s total k) where
   passed : {n : ℕ} → n ≡ count s k → total + n ≡ start s (suc k)
   passed {n} e = start-next s total n k (w .is) e ∙ ap (start s) (add-one k)
 
-  pub total-found : {n : ℕ} → k < loops s → n ≡ count s k → maxPoints < total + n → at k ≡ tooManyPoints s
+  pub total-found : {n : ℕ} → k < loops s → n ≡ count s k → L .points < total + n → at k ≡ tooManyPoints L s
   unfolding tooManyPoints
   total-found h e l =
       let q = passed e in
-      seek-found (w .seeking) h (lt-ltb maxPoints (start s (suc k)) (omega arith))
+      seek-found (w .seeking) h (lt-ltb (L .points) (start s (suc k)) (omega arith))
 
-  pub total-turn : {n : ℕ} → k < loops s → n ≡ count s k → total + n ≤ maxPoints → Totalling s (total + n) (k + 1)
-  total-turn {n} h e l =
+  pub total-turn : {n : ℕ} → k < loops s → n ≡ count s k → n < 65536 → total + n ≤ L .points → Totalling L s (total + n) (k + 1)
+  total-turn {n} h e b l =
       let q = passed e in
       record {
         is = start-next s total n k (w .is) e;
-        small = l;
-        seeking = seek-turn (w .seeking) h (le-ltb maxPoints (start s (suc k)) (omega arith));
+        small = let z = w .small in omega arith;
+        seeking = seek-turn (w .seeking) h (le-ltb (L .points) (start s (suc k)) (omega arith));
       }
 
-  pub total-end : loops s ≤ k → nowhere ≡ tooManyPoints s
+  pub total-end : loops s ≤ k → nowhere ≡ tooManyPoints L s
   unfolding tooManyPoints
   total-end h = seek-end (w .seeking) h

@@ -1,5 +1,5 @@
--- The longest acceptable record has 20,621 bytes, and of a longer one the answer depends on its first 20,622 bytes alone: 2 to 5 look at the first 37,
--- and 6 gives the length needed, not the length found. So a caller need not read further.
+-- Of a record that is longer than the longest acceptable one, 20,621 bytes in version 1, the answer depends on one byte more than that alone: 2 to 5 look at
+-- the header and the counts, and 6 gives the length needed, not the length found. So a caller need not read further.
 use mathlib.Core.Path.{_≡_, refl, sym, ap, _∙_}
 use mathlib.Core.Logic.{_⊎_, inl, inr}
 use mathlib.Core.Bool.{Bool, true, false, cond}
@@ -11,15 +11,15 @@ use lib.Seq.{take-all, getD-take}
 use borrow.Author.Tests.{ltb-true, ltb-false, le-ltb, ne-eqb}
 use Rattle.records.specs.Bytes.{_<?_, numberAt, number}
 use Rattle.records.specs.Face.{headerSize, headReals, version, kind, loops, sense, segments, count, start, points, needed}
-use Rattle.records.specs.Limits.{maxLoops, maxPoints, resultBytes}
+use Rattle.records.specs.declared.limits.Limits.{Limits}
 use Rattle.records.specs.Refusals.{Place, nowhere, at, firstFrom, firstWhere, Condition, conditions, recordConditions, Verdict, passes, refuses, refuseAt, verdict, tooFewLent, wrongByte, wrongHeader, tooManyLoops, endsInCounts, tooFewPoints, tooManyPoints, wrongLength}
 use Rattle.records.specs.Call.{Outcome, outcome, judge}
 use Rattle.records.proofs.Search.{when-fails, first-fails}
 use Rattle.records.proofs.Numbers.{numberAt-cons}
 use Rattle.records.proofs.Accepted.{last-total}
 
-abbrev pub longest : ℕ
-longest = headerSize + 2 * maxLoops + 8 * (headReals + 5 * maxPoints)
+abbrev pub longest : Limits → ℕ
+longest L = headerSize + 2 * L .loops + 8 * (headReals + 5 * L .points)
 
 -- ---- two records and a list of conditions: f and g agree on refusals
 
@@ -48,27 +48,31 @@ first-alike test test′ k (suc n) h = rw (h k (omega arith), first-alike test t
 
 -- ---- what the limits say
 
-module _ (s : List ℕ) where
-  pub few-loops : tooManyLoops s ≡ nowhere → loops s ≤ maxLoops
+module _ (L : Limits) (s : List ℕ) where
+  pub few-loops : tooManyLoops L s ≡ nowhere → loops s ≤ L .loops
   unfolding tooManyLoops
-  few-loops e = ltb-false maxLoops (loops s) (when-fails _ (loops s) .0 e)
+  few-loops e = ltb-false (L .loops) (loops s) (when-fails _ (loops s) .0 e)
 
-  pub few-points : tooManyPoints s ≡ nowhere → points s ≤ maxPoints
+  pub few-points : tooManyPoints L s ≡ nowhere → points s ≤ L .points
   unfolding tooManyPoints
   few-points e =
-      last-total s (loops s) (λ k h. ltb-false maxPoints (start s (suc k)) (first-fails (λ i. maxPoints <? start s (suc i)) (loops s) .0 e k h))
+      last-total s (L .points) (loops s)
+      (λ k h. ltb-false (L .points) (start s (suc k)) (first-fails (λ i. L .points <? start s (suc i)) (loops s) .0 e k h))
 
 -- ---- a record that is longer than the longest acceptable one
 
-module _ (s : List ℕ) (long : longest < length s) where
-  abbrev t : List ℕ
-  t = take (suc longest) s
+module _ (L : Limits) (s : List ℕ) (long : longest L < length s) where
+  abbrev most : ℕ
+  most = longest L
 
-  t-long : length t ≡ suc longest
+  abbrev t : List ℕ
+  t = take (suc most) s
+
+  t-long : length t ≡ suc most
   t-long = simp length-take (omega arith)
 
-  byte : (i : ℕ) → i ≤ longest → getD t i 0 ≡ getD s i 0
-  byte i h = getD-take (suc longest) s i 0 (omega arith)
+  byte : (i : ℕ) → i ≤ most → getD t i 0 ≡ getD s i 0
+  byte i h = getD-take (suc most) s i 0 (omega arith)
 
   loops-alike : loops t ≡ loops s
   loops-alike = byte 2 (omega arith)
@@ -84,11 +88,11 @@ module _ (s : List ℕ) (long : longest < length s) where
       rw (le-ltb (length t) headerSize (omega arith), le-ltb (length s) headerSize (omega arith))
       (first-alike (wrongByte t) (wrongByte s) 0 headerSize (λ i h. wrong-alike i))
 
-  many-alike : tooManyLoops t ≡ tooManyLoops s
+  many-alike : tooManyLoops L t ≡ tooManyLoops L s
   unfolding tooManyLoops
   many-alike = rw loops-alike
 
-  module _ (few : loops s ≤ maxLoops) where
+  module _ (few : loops s ≤ L .loops) where
     ends-alike : endsInCounts t ≡ endsInCounts s
     unfolding endsInCounts
     ends-alike =
@@ -96,7 +100,7 @@ module _ (s : List ℕ) (long : longest < length s) where
         let e = loops-alike in
         rw (le-ltb (length t) (headerSize + 2 * loops t) (omega arith), le-ltb (length s) (headerSize + 2 * loops s) (omega arith))
 
-    count-alike : (k : ℕ) → k < maxLoops → count t k ≡ count s k
+    count-alike : (k : ℕ) → k < L .loops → count t k ≡ count s k
     unfolding numberAt number
     count-alike k h =
         let p : ℕ = headerSize + 2 * k in
@@ -104,7 +108,7 @@ module _ (s : List ℕ) (long : longest < length s) where
         ∙ rw (byte p (omega arith), byte (suc p) (omega arith))
         (sym (numberAt-cons 1 s p ∙ ap (λ (n : ℕ). getD s p 0 + 256 * n) (numberAt-cons 0 s (suc p))))
 
-    start-alike : (k : ℕ) → k ≤ maxLoops → start t k ≡ start s k
+    start-alike : (k : ℕ) → k ≤ L .loops → start t k ≡ start s k
     unfolding start
     start-alike zero h = refl
     start-alike (suc k) h = rw (start-alike k (omega arith), count-alike k (omega arith))
@@ -113,47 +117,47 @@ module _ (s : List ℕ) (long : longest < length s) where
     unfolding tooFewPoints
     few-alike = rw loops-alike (first-alike _ _ 0 (loops s) (λ k h. rw (count-alike k (omega arith))))
 
-    total-alike : tooManyPoints t ≡ tooManyPoints s
+    total-alike : tooManyPoints L t ≡ tooManyPoints L s
     unfolding tooManyPoints
     total-alike = rw loops-alike (first-alike _ _ 0 (loops s) (λ k h. rw (start-alike (suc k) (omega arith))))
 
     needed-alike : needed t ≡ needed s
     needed-alike = rw loops-alike (let e = start-alike (loops s) few in omega arith)
 
-  length-wrong : (r : List ℕ) → needed r ≡ needed s → longest < length r → points s ≤ maxPoints → loops s ≤ maxLoops → wrongLength r ≡ at (needed s)
+  length-wrong : (r : List ℕ) → needed r ≡ needed s → most < length r → points s ≤ L .points → loops s ≤ L .loops → wrongLength r ≡ at (needed s)
   unfolding wrongLength
   length-wrong r e l h k = rw (ne-eqb (length r) (needed r) (λ q. omega arith), e)
 
   module _ {B : Type 0} (f g : Verdict → B) (agree : (n p : ℕ) → f (refuses n p) ≡ g (refuses n p)) where
-    pub long-alike : (more : List Condition) → f (verdict (recordConditions ++ more) t) ≡ g (verdict (recordConditions ++ more) s)
+    pub long-alike : (more : List Condition) → f (verdict (recordConditions L ++ more) t) ≡ g (verdict (recordConditions L ++ more) s)
     long-alike more =
         step t s f g agree _ _ header-alike (λ h1. step t s f g agree _ _ many-alike (λ h2.
-        let few = few-loops s h2 in
+        let few = few-loops L s h2 in
         step t s f g agree _ _ (ends-alike few) (λ h3. step t s f g agree _ _ (few-alike few) (λ h4. step t s f g agree _ _ (total-alike few) (λ h5.
-        let total = few-points s h5 in
+        let total = few-points L s h5 in
         let l = t-long in
         stop t s f g agree _ _ (needed s) (length-wrong t (needed-alike few) (omega arith) total few) (length-wrong s refl long total few))))))
 
 -- ---- any record
 
-module _ (s : List ℕ) where
-  cut : (A : List ℕ → Type 0) → A s → (longest < length s → A (take (suc longest) s)) → A (take (suc longest) s)
-  cut A whole long = go (longest <? length s) refl
+module _ (L : Limits) (s : List ℕ) where
+  cut : (A : List ℕ → Type 0) → A s → (longest L < length s → A (take (suc (longest L)) s)) → A (take (suc (longest L)) s)
+  cut A whole long = go (longest L <? length s) refl
     where
-      go : (b : Bool) → (longest <? length s) ≡ b → A (take (suc longest) s)
-      go true e = long (ltb-true longest (length s) e)
-      go false e = let l = ltb-false longest (length s) e in rw (take-all (suc longest) s (omega arith)) whole
+      go : (b : Bool) → (longest L <? length s) ≡ b → A (take (suc (longest L)) s)
+      go true e = long (ltb-true (longest L) (length s) e)
+      go false e = let l = ltb-false (longest L) (length s) e in rw (take-all (suc (longest L)) s (omega arith)) whole
 
-  pub verdict-prefix : verdict recordConditions (take (suc longest) s) ≡ verdict recordConditions s
-  verdict-prefix = cut (λ r. verdict recordConditions r ≡ verdict recordConditions s) refl
-      (λ long. long-alike s long (λ v. v) (λ v. v) (λ n p. refl) [])
+  pub verdict-prefix : verdict (recordConditions L) (take (suc (longest L)) s) ≡ verdict (recordConditions L) s
+  verdict-prefix = cut (λ r. verdict (recordConditions L) r ≡ verdict (recordConditions L) s) refl
+      (λ long. long-alike L s long (λ v. v) (λ v. v) (λ n p. refl) [])
 
   pub judge-prefix : (more : List Condition) (result : List ℕ → List ℕ) (lent : ℕ)
-      → judge more result lent (take (suc longest) s) ≡ judge more result lent s
+      → judge L more result lent (take (suc (longest L)) s) ≡ judge L more result lent s
   unfolding judge tooFewLent
-  judge-prefix more result lent = cut (λ r. judge more result lent r ≡ judge more result lent s) refl
+  judge-prefix more result lent = cut (λ r. judge L more result lent r ≡ judge L more result lent s) refl
       (λ long.
-      let t : List ℕ = take (suc longest) s in
+      let t : List ℕ = take (suc (longest L)) s in
       let f : Verdict → Outcome = λ v. outcome v (result t) in
       let g : Verdict → Outcome = λ v. outcome v (result s) in
-      step t s f g (λ n p. refl) _ _ refl (λ h. long-alike s long f g (λ n p. refl) more))
+      step t s f g (λ n p. refl) _ _ refl (λ h. long-alike L s long f g (λ n p. refl) more))

@@ -11,7 +11,8 @@ use lib.ListN.{length, getD}
 use borrow.Author.Tests.{ltb-true, ltb-false, lt-ltb, le-ltb, eqb-true, eq-eqb, eqb-false, ne-eqb, not-true, not-false}
 use Rattle.records.specs.Bytes.{_<?_, _=?_}
 use Rattle.records.specs.Face.{headerSize, loops, count, start, kind, points, reals, needed, realOf}
-use Rattle.records.specs.Limits.{maxLoops, minPoints, maxPoints, resultBytes, holds, range}
+use Rattle.records.specs.declared.limits.Limits.{Limits}
+use Rattle.records.specs.Limits.{minPoints, holds, range}
 use Rattle.records.specs.Refusals.{Place, nowhere, at, when, firstWhere, Condition, never, conditions, Verdict, passes, refuses, refuseAt, verdict, FirstToHold, NoneHolds, tooFewLent, wrongByte, wrongHeader, tooManyLoops, endsInCounts, tooFewPoints, tooManyPoints, wrongLength, badReal, firstBadReal}
 use Rattle.records.specs.Call.{Outcome, refused, closed, outcome, judge}
 use Rattle.records.proofs.Search.{nowhere≢at, when-holds, Least, first-holds}
@@ -80,18 +81,18 @@ outcome-closed : (v : Verdict) (b c : List ℕ) → outcome v b ≡ closed c →
 outcome-closed passes b c e = (refl, cc)
 outcome-closed (refuses m q) b c e = let z : _≡_ {A = ℕ} 0 1 = cc in absurd (omega arith)
 
-module _ (more : List Condition) (result : List ℕ → List ℕ) (lent : ℕ) (s : List ℕ) where
+module _ (L : Limits) (more : List Condition) (result : List ℕ → List ℕ) (lent : ℕ) (s : List ℕ) where
   abbrev all : List Condition
-  all = conditions lent ++ more
+  all = conditions L lent ++ more
 
-  pub refused-exactly : (n p : ℕ) → judge more result lent s ≡ refused n p ↔ FirstToHold (conditions lent ++ more) s n p
+  pub refused-exactly : (n p : ℕ) → judge L more result lent s ≡ refused n p ↔ FirstToHold (conditions L lent ++ more) s n p
   unfolding judge
   refused-exactly n p = (
     (λ e. verdict-refuses s all n p .0 (outcome-refused (verdict all s) (result s) n p e)),
     (λ f. ap (λ (v : Verdict). outcome v (result s)) (verdict-refuses s all n p .1 f)),
   )
 
-  pub closed-exactly : (b : List ℕ) → judge more result lent s ≡ closed b ↔ NoneHolds (conditions lent ++ more) s × (b ≡ result s)
+  pub closed-exactly : (b : List ℕ) → judge L more result lent s ≡ closed b ↔ NoneHolds (conditions L lent ++ more) s × (b ≡ result s)
   unfolding judge
   closed-exactly b = (
     (λ e. let r = outcome-closed (verdict all s) (result s) b e in (verdict-passes s all .0 (r .0), r .1)),
@@ -134,11 +135,21 @@ first-exactly test w n p = (
   (λ r. first-holds test n p .1 (record { inside = r .0; here = w p .→true (r .1); before = λ j h. w j .→false (r .2 j h) })),
 )
 
-module _ (s : List ℕ) (p : ℕ) where
-  pub refusal-1 : (lent : ℕ) → tooFewLent lent s ≡ at p ↔ (lent < resultBytes) × (p ≡ resultBytes)
+module _ (L : Limits) (s : List ℕ) (p : ℕ) where
+  pub refusal-1 : (lent : ℕ) → tooFewLent L lent s ≡ at p ↔ (lent < L .result) × (p ≡ L .result)
   unfolding tooFewLent
-  refusal-1 lent = when-exactly _ (below lent resultBytes) resultBytes p
+  refusal-1 lent = when-exactly _ (below lent (L .result)) (L .result) p
 
+  pub refusal-3 : tooManyLoops L s ≡ at p ↔ (L .loops < loops s) × (p ≡ loops s)
+  unfolding tooManyLoops
+  refusal-3 = when-exactly _ (below (L .loops) (loops s)) (loops s) p
+
+  pub refusal-5 : tooManyPoints L s ≡ at p ↔ (p < loops s) × (L .points < start s (suc p)) × ((j : ℕ) → j < p → start s (suc j) ≤ L .points)
+  unfolding tooManyPoints
+  refusal-5 = first-exactly (λ k. L .points <? start s (suc k)) (λ k. below (L .points) (start s (suc k))) (loops s) p
+
+-- those that no limit touches
+module _ (s : List ℕ) (p : ℕ) where
   pub refusal-2 : wrongHeader s ≡ at p ↔ ((length s < headerSize) × (p ≡ length s)) ⊎ ((headerSize ≤ length s) × Least (wrongByte s) headerSize p)
   unfolding wrongHeader
   refusal-2 = (go→ (length s <? headerSize) refl, go←)
@@ -153,17 +164,9 @@ module _ (s : List ℕ) (p : ℕ) where
       go← (inl w) = rw (lt-ltb (length s) headerSize (w .0), w .1)
       go← (inr w) = rw (le-ltb (length s) headerSize (w .0)) (first-holds (wrongByte s) headerSize p .1 (w .1))
 
-  pub refusal-3 : tooManyLoops s ≡ at p ↔ (maxLoops < loops s) × (p ≡ loops s)
-  unfolding tooManyLoops
-  refusal-3 = when-exactly _ (below maxLoops (loops s)) (loops s) p
-
   pub refusal-4 : tooFewPoints s ≡ at p ↔ (p < loops s) × (count s p < minPoints) × ((j : ℕ) → j < p → minPoints ≤ count s j)
   unfolding tooFewPoints
   refusal-4 = first-exactly (λ k. count s k <? minPoints) (λ k. below (count s k) minPoints) (loops s) p
-
-  pub refusal-5 : tooManyPoints s ≡ at p ↔ (p < loops s) × (maxPoints < start s (suc p)) × ((j : ℕ) → j < p → start s (suc j) ≤ maxPoints)
-  unfolding tooManyPoints
-  refusal-5 = first-exactly (λ k. maxPoints <? start s (suc k)) (λ k. below maxPoints (start s (suc k))) (loops s) p
 
   -- the two halves of 6
   pub refusal-6-counts : endsInCounts s ≡ at p ↔ (length s < headerSize + 2 * loops s) × (p ≡ headerSize + 2 * loops s)

@@ -10,7 +10,8 @@ use lib.Ieee.Bits.{ofBits-toBits, toBits-lt}
 use Rattle.numbers.specs.declared.math.Vec2.{Vec2}
 use Rattle.numbers.specs.declared.math.Vec3.{Vec3}
 use Rattle.records.specs.Bytes.{number, numberAt, u16At, realAt, uvAt, xyzAt, rowAt, bytes, u16, real, uv, xyz, row, sum}
-use Rattle.records.specs.Limits.{maxLoops, maxPoints, maxStrip, resultBytes}
+use Rattle.records.specs.declared.limits.Limits.{Limits}
+use Rattle.records.specs.Encodable.{Encodable, mostCorners}
 use Rattle.records.specs.Result.{Result, encode, resultLength, All, none, and, Short, Fits, FitsUv, FitsXyz, Writable, holesIn, loopsIn, countsIn, cornersIn, decode}
 
 -- ---- one number
@@ -186,6 +187,6 @@ module _ (r : Result) (w : Writable r) where
     unfolding encode
     length-read = let e = loops-back in let f = corners-back in let g = length-encode in omega arith
 
-  -- within the limits, an outer loop and at most 16 holes with the corners of a strip and of all given points, 61,614 bytes are enough
-  pub encode-fits : length (r .counts) ≤ maxLoops + 1 → sum (r .counts) ≤ maxStrip + maxPoints → length (encode r) ≤ resultBytes
-  encode-fits h c = let e = length-encode in omega arith
+  -- within the limits, an outer loop and a hole for each given loop with the corners of a strip and of all given points, the lent bytes are enough
+  pub encode-fits : (L : Limits) → Encodable L → length (r .counts) ≤ L .loops + 1 → sum (r .counts) ≤ mostCorners L → length (encode r) ≤ L .result
+  encode-fits L fit h c = let e = length-encode in let f = fit .enough in omega arith

@@ -2,6 +2,7 @@
 use Prim.Native.Nat.{ℕ}
 use mathlib.Core.List.{List, [], _∷_, _++_}
 use lib.ListN.{length, drop}
+use Rattle.records.specs.declared.limits.Limits.{Limits}
 use Rattle.records.specs.Bytes.{bytes}
 use Rattle.records.specs.Refusals.{Verdict, passes, refuses, Condition, conditions, verdict}
 
@@ -13,10 +14,10 @@ abbrev pub outcome : Verdict → List ℕ → Outcome
 outcome passes result = closed result
 outcome (refuses number place) result = refused number place
 
--- `later` are the conditions after 7, `result` gives the result record of a face that none of them refuses
-module _ (later : List Condition) (result : List ℕ → List ℕ) where
+-- by the limits L; `later` are the conditions after 7, `result` gives the result record of a face that none of them refuses
+module _ (L : Limits) (later : List Condition) (result : List ℕ → List ℕ) where
   unfoldable pub judge : ℕ → List ℕ → Outcome
-  judge lent s = outcome (verdict (conditions lent ++ later) s) (result s)
+  judge lent s = outcome (verdict (conditions L lent ++ later) s) (result s)
 
 -- 01, "The result record": "The call returns 0 and the length", or the refusal and its place
 abbrev pub code : Outcome → ℕ

@@ -4,6 +4,7 @@ pub mod Limits
 pub mod Refusals
 pub mod Accepted
 pub mod Result
+pub mod Encodable
 pub mod Call
 pub mod Parts
 pub mod Lent

@@ -1,28 +1,19 @@
--- 01, "The face record": the limits of version 1. "Limits are included."
+-- 01, "The face record": the limits. "Limits are included."
 use Prim.Native.Nat.{ℕ, _+_, _-_, _*_, _%_}
 use mathlib.Core.Bool.{Bool, true, false, _&&_, cond}
 use lib.Ieee.{Float, nan, inf, fin, binary64, ofBits, le, neg}
+use Rattle.records.specs.declared.limits.Limits.{Limits}
 use Rattle.records.specs.Bytes.{_<?_, _≤?_, _=?_}
 use Rattle.records.specs.Face.{headReals}
 
 -- ---- sizes
 
-abbrev pub maxLoops : ℕ
-maxLoops = 16
+-- 01, the table: "3, L: L over 16", "5 .. running total passes 512", "12 .. has over 1,024", "1 .. fewer than 61,614 result bytes lent"
+abbrev pub version1 : Limits
+version1 = record { loops = 16; points = 512; strip = 1024; result = 61614 }
 
 abbrev pub minPoints : ℕ
 minPoints = 3
-
-abbrev pub maxPoints : ℕ
-maxPoints = 512
-
--- 01, the table, 12: the points of a strip
-abbrev pub maxStrip : ℕ
-maxStrip = 1024
-
--- 01, the table, 1: the result bytes that are to be lent
-abbrev pub resultBytes : ℕ
-resultBytes = 61614
 
 -- ---- bounds of the reals: each is the double nearest to the number that its name says
 

@@ -1,12 +1,14 @@
--- 01, "The face record": the refusals 1 to 7 as one list of conditions, in the order in which they are tested.
+-- 01, "The face record": the refusals 1 to 7 as one list of conditions, in the order in which they are tested, by any limits L. The numbers in the quotes
+-- are those of version 1.
 use mathlib.Core.Path.{_≡_}
 use Prim.Native.Nat.{ℕ, zero, suc, _+_, _*_, _<_}
 use mathlib.Core.Bool.{Bool, true, false, not, _||_, cond}
-use mathlib.Core.List.{List, [], _∷_}
+use mathlib.Core.List.{List, [], _∷_, _++_}
 use lib.ListN.{length, getD}
 use Rattle.records.specs.Bytes.{_<?_, _≤?_, _=?_}
 use Rattle.records.specs.Face.{headerSize, version, kind, loops, sense, segments, count, start, points, realOf, reals, needed}
-use Rattle.records.specs.Limits.{maxLoops, minPoints, maxPoints, resultBytes, torus, holds, range}
+use Rattle.records.specs.declared.limits.Limits.{Limits}
+use Rattle.records.specs.Limits.{minPoints, torus, holds, range}
 
 -- ---- where a condition holds
 
@@ -29,8 +31,8 @@ firstWhere n test = firstFrom test 0 n
 -- ---- the conditions, each over the bytes of the record, with its place
 
 -- "1, 61614: fewer than 61,614 result bytes lent"
-unfoldable pub tooFewLent : ℕ → List ℕ → Place
-tooFewLent lent s = when (lent <? resultBytes) resultBytes
+unfoldable pub tooFewLent : Limits → ℕ → List ℕ → Place
+tooFewLent L lent s = when (lent <? L .result) (L .result)
 
 -- byte i of the header is wrong: of 0, 1, 3, 4 alone
 unfoldable pub wrongByte : List ℕ → ℕ → Bool
@@ -45,8 +47,8 @@ unfoldable pub wrongHeader : List ℕ → Place
 wrongHeader s = cond (length s <? headerSize) (at (length s)) (firstWhere headerSize (wrongByte s))
 
 -- "3, L: L over 16"
-unfoldable pub tooManyLoops : List ℕ → Place
-tooManyLoops s = when (maxLoops <? loops s) (loops s)
+unfoldable pub tooManyLoops : Limits → List ℕ → Place
+tooManyLoops L s = when (L .loops <? loops s) (loops s)
 
 -- "6, needed length: record ends inside its counts (needed: 5 + 2L)"
 unfoldable pub endsInCounts : List ℕ → Place
@@ -57,8 +59,8 @@ unfoldable pub tooFewPoints : List ℕ → Place
 tooFewPoints s = firstWhere (loops s) (λ k. count s k <? minPoints)
 
 -- "5, loop: first loop whose running total passes 512"
-unfoldable pub tooManyPoints : List ℕ → Place
-tooManyPoints s = firstWhere (loops s) (λ k. maxPoints <? start s (suc k))
+unfoldable pub tooManyPoints : Limits → List ℕ → Place
+tooManyPoints L s = firstWhere (loops s) (λ k. L .points <? start s (suc k))
 
 -- "6, needed length: its length is not the one its counts give"
 unfoldable pub wrongLength : List ℕ → Place
@@ -81,21 +83,28 @@ infix 70 _on_
 abbrev pub _on_ : ℕ → (List ℕ → Place) → Condition
 number on place = record { number = number; place = place }
 
--- "Checks run in that order, except that the two halves of 6 stand before 4 and after 5." Those of the record alone:
-abbrev pub recordConditions : List Condition
-recordConditions =
-    2 on wrongHeader
-    ∷ 3 on tooManyLoops
+-- "Checks run in that order, except that the two halves of 6 stand before 4 and after 5." That of the header, which no limit touches:
+abbrev pub headerConditions : List Condition
+headerConditions = 2 on wrongHeader ∷ []
+
+-- those of what follows it
+abbrev pub bodyConditions : Limits → List Condition
+bodyConditions L =
+    3 on tooManyLoops L
     ∷ 6 on endsInCounts
     ∷ 4 on tooFewPoints
-    ∷ 5 on tooManyPoints
+    ∷ 5 on tooManyPoints L
     ∷ 6 on wrongLength
     ∷ 7 on firstBadReal
     ∷ []
 
+-- those of the record alone
+abbrev pub recordConditions : Limits → List Condition
+recordConditions L = headerConditions ++ bodyConditions L
+
 -- before them, the one of the bytes that are lent
-abbrev pub conditions : ℕ → List Condition
-conditions lent = 1 on tooFewLent lent ∷ recordConditions
+abbrev pub conditions : Limits → ℕ → List Condition
+conditions L lent = 1 on tooFewLent L lent ∷ recordConditions L
 
 -- ---- what a list of conditions says of a record: the first that holds, with its place
 

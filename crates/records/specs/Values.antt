@@ -7,7 +7,7 @@ use lib.ListN.{length, set, take}
 use lib.Ieee.{Float, binary64, round, ofBits, toBits, odd, ofFields, le, lt, eq, neg}
 use Rattle.records.specs.Bytes.{number, numberAt, realAt, uvAt, xyzAt, rowAt, bytes, real, uv, xyz, row, sum}
 use Rattle.records.specs.Face.{start}
-use Rattle.records.specs.Limits.{10^9, 10^6, 10^3, 64·0, 1·5, 0·001, 10^-6, 0·0, plane, cylinder, cone, sphere, torus, holds, headRange, radius, second, uvRange, uRange, vRange, range}
+use Rattle.records.specs.Limits.{version1, 10^9, 10^6, 10^3, 64·0, 1·5, 0·001, 10^-6, 0·0, plane, cylinder, cone, sphere, torus, holds, headRange, radius, second, uvRange, uRange, vRange, range}
 use Rattle.records.specs.Refusals.{Verdict, passes, refuses, Condition, conditions, verdict, firstFrom, tooFewLent, wrongByte, wrongHeader, tooManyLoops, endsInCounts, tooFewPoints, tooManyPoints, wrongLength, badReal, firstBadReal}
 use Rattle.records.specs.Result.{Result, encode, decode, countsIn, cornersIn}
 use Rattle.records.specs.Call.{judge, output}
@@ -62,7 +62,7 @@ triangle =
     0·0 ∷ 0·0 ∷ 0·0 ∷ 4·0 ∷ 0·0 ∷ 0·0 ∷ 0·0 ∷ 3·0 ∷ 0·0 ∷ [])  -- (x, y, z)
 
 abbrev says : ℕ → List ℕ → Verdict
-says lent s = verdict (conditions lent) s
+says lent s = verdict (conditions version1 lent) s
 
 -- the header of a plane with two loops of 300 points, and no more
 abbrev twice300 : List ℕ
@@ -248,7 +248,7 @@ pub record Records : Type 0 where
   pub triangle-read : decode written ≡ triangleResult
   pub written-long : length written ≡ 134
   -- 01, "The result record": "Empty input gives `00 02 00 00 00 00`."
-  pub empty-output : (later : List Condition) (result : List ℕ → List ℕ) → output (judge later result 61614 []) ≡ 0 ∷ 2 ∷ 0 ∷ 0 ∷ 0 ∷ 0 ∷ []
+  pub empty-output : (later : List Condition) (result : List ℕ → List ℕ) → output (judge version1 later result 61614 []) ≡ 0 ∷ 2 ∷ 0 ∷ 0 ∷ 0 ∷ 0 ∷ []
 
 pub record-values : Records
 unfolding encode decode countsIn cornersIn row rowAt sum number numberAt bytes real realAt uv uvAt xyz xyzAt ofBits ofFields odd toBits judge verdict tooFewLent wrongHeader

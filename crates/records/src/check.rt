@@ -12,10 +12,9 @@ ghost use Rattle.records.specs.Parts.{badFrom};
 ghost use Rattle.records.specs.Answers.{placeOf, verdictOf, numberOf, placeIn};
 use super::HEAD_REALS;
 use super::HEADER_SIZE;
-use super::MAX_LOOPS;
-use super::MAX_POINTS;
 use super::MIN_POINTS;
 use super::count_at;
+use super::limits::Limits;
 use super::loops;
 use super::points;
 use super::real_at;
@@ -70,8 +69,8 @@ impl Checked {
     }
 }
 
-// 2
-fn wrong_header(face: &[u8]) -> Place
+// 2, the same whatever the limits are: a step of its own
+pub fn wrong_header(face: &[u8]) -> Place
     ensures { λ r. ⌜ placeOf r ≡ wrongHeader (now (face .entry)) ⌝ }
 {
     if face.len() < HEADER_SIZE {
@@ -96,12 +95,12 @@ fn wrong_header(face: &[u8]) -> Place
 }
 
 // 3
-fn too_many_loops(face: &[u8]) -> Place
+fn too_many_loops(face: &[u8], limits: Limits) -> Place
     requires { ⌜ headerSize ≤ length (now face) ⌝ }
-    ensures { λ r. ⌜ placeOf r ≡ tooManyLoops (now (face .entry)) ⌝ }
+    ensures { λ r. ⌜ placeOf r ≡ tooManyLoops limits (now (face .entry)) ⌝ }
 {
     let l = loops(face);
-    if l > MAX_LOOPS {
+    if l > limits.loops {
         return Place::At(l);
     }
     Place::Nowhere
@@ -136,16 +135,16 @@ fn too_few_points(face: &[u8]) -> Place
 }
 
 // 5
-fn too_many_points(face: &[u8]) -> Place
+fn too_many_points(face: &[u8], limits: Limits) -> Place
     requires { ⌜ headerSize + 2 * loops (now face) ≤ length (now face) ⌝ }
-    ensures { λ r. ⌜ placeOf r ≡ tooManyPoints (now (face .entry)) ⌝ }
+    ensures { λ r. ⌜ placeOf r ≡ tooManyPoints limits (now (face .entry)) ⌝ }
 {
     let l = loops(face);
     let mut total = 0;
     let mut k = 0;
     while k < l {
         total += count_at(face, k);
-        if total > MAX_POINTS {
+        if total > limits.points {
             return Place::At(k);
         }
         k += 1;
@@ -305,13 +304,13 @@ fn first_bad_real(face: &[u8]) -> Place
 
 // ---- the check
 
-pub fn check(face: &[u8]) -> Checked
-    ensures { λ r. ⌜ verdictOf r ≡ verdict recordConditions (now (face .entry)) ⌝ }
+pub fn check(face: &[u8], limits: Limits) -> Checked
+    ensures { λ r. ⌜ verdictOf r ≡ verdict (recordConditions limits) (now (face .entry)) ⌝ }
 {
     if let Place::At(p) = wrong_header(face) {
         return Checked::WrongHeader(p);
     }
-    if let Place::At(l) = too_many_loops(face) {
+    if let Place::At(l) = too_many_loops(face, limits) {
         return Checked::TooManyLoops(l);
     }
     if let Place::At(n) = ends_in_counts(face) {
@@ -320,7 +319,7 @@ pub fn check(face: &[u8]) -> Checked
     if let Place::At(k) = too_few_points(face) {
         return Checked::TooFewPoints(k);
     }
-    if let Place::At(k) = too_many_points(face) {
+    if let Place::At(k) = too_many_points(face, limits) {
         return Checked::TooManyPoints(k);
     }
     if let Place::At(n) = wrong_length(face) {

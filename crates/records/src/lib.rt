@@ -9,18 +9,15 @@ use numbers::bits;
 use numbers::bits::Real;
 
 pub mod check;
+pub mod limits;
 pub mod read;
 
-// Version 1: the sizes of a face record's parts, and its limits.
+// The sizes of a face record's parts, and how few points a loop may have.
 const HEADER_SIZE: usize = 5;
 
 const HEAD_REALS: usize = 13;
 
-const MAX_LOOPS: usize = 16;
-
 const MIN_POINTS: usize = 3;
-
-const MAX_POINTS: usize = 512;
 
 fn wide(b: u8) -> u64
     ensures { λ r. ⌜ (r ≡ b) × (r < 256) ⌝ }

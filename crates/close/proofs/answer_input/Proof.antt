@@ -2,7 +2,7 @@ use mathlib.Core.Path.{_≡_, sym}
 use lib.ListN.{length, take}
 use lib.Seq.{length-take-le}
 use borrow.Author.Needs.{needs}
-use Rattle.records.specs.Limits.{resultBytes}
+use Rattle.records.specs.Limits.{version1}
 use Rattle.close.proofs.Whole.{within, of-all}
 use Rattle.close.proofs.answer_input.Statement.{statement}
 use Rattle.close.proofs.answer_input.Tie as tie
@@ -21,7 +21,7 @@ returns c =
     let answered = c .write-answer .ensures in
     let left = answered .1 .0 in
     let found = answered .1 .1 in
-    let full : length old ≡ resultBytes = search needs in
+    let full : length old ≡ version1 .result = search needs in
     let enough : length (given .face .now) ≡ 20622 = search needs in
     (within read old full (answered .0) left, λ input first. of-all read old full (answered .0) left input enough first found)
 

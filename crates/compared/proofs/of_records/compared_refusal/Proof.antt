@@ -1,17 +1,15 @@
 use mathlib.Core.Path.{ap, _∙_}
+use Rattle.records.specs.declared.limits.Limits.{Limits}
 use Rattle.records.specs.Answers.{numberOf}
+use Rattle.records.specs.Refusals.{recordConditions, verdict}
 use borrow.Author.Needs.{needs}
 use Rattle.compared.proofs.of_records.compared_refusal.Statement.{statement}
 use Rattle.compared.proofs.of_records.compared_refusal.Tie as tie
 
-check-requires : tie.Need-check-requires
-check-requires c κs = search needs
-
-number-requires : tie.Need-number-requires
-number-requires c κs = search needs
-
 returns : tie.Need-returns
-returns c = c .number .ensures ∙ ap numberOf (c .before .check .ensures)
+returns c =
+    let face = c .before .before .before .before .args .face .now in
+    c .number .ensures ∙ ap numberOf (c .before .check .ensures ∙ ap (λ (L : Limits). verdict (recordConditions L) face) (c .before .before .version1 .ensures))
 
 pub compared-refusal-spec : {M : Type 1} → statement M
-compared-refusal-spec = tie.close (tie.spec check-requires number-requires returns)
+compared-refusal-spec = tie.close (tie.spec (λ c κs. search needs) (λ c κs. search needs) (λ c κs. search needs) returns)

@@ -1,17 +1,15 @@
 use mathlib.Core.Path.{ap, _∙_}
+use Rattle.records.specs.declared.limits.Limits.{Limits}
 use Rattle.records.specs.Answers.{placeIn}
+use Rattle.records.specs.Refusals.{recordConditions, verdict}
 use borrow.Author.Needs.{needs}
 use Rattle.compared.proofs.of_records.compared_refusal_place.Statement.{statement}
 use Rattle.compared.proofs.of_records.compared_refusal_place.Tie as tie
 
-check-requires : tie.Need-check-requires
-check-requires c κs = search needs
-
-place-requires : tie.Need-place-requires
-place-requires c κs = search needs
-
 returns : tie.Need-returns
-returns c = c .place .ensures ∙ ap placeIn (c .before .check .ensures)
+returns c =
+    let face = c .before .before .before .before .args .face .now in
+    c .place .ensures ∙ ap placeIn (c .before .check .ensures ∙ ap (λ (L : Limits). verdict (recordConditions L) face) (c .before .before .version1 .ensures))
 
 pub compared-refusal-place-spec : {M : Type 1} → statement M
-compared-refusal-place-spec = tie.close (tie.spec check-requires place-requires returns)
+compared-refusal-place-spec = tie.close (tie.spec (λ c κs. search needs) (λ c κs. search needs) (λ c κs. search needs) returns)

@@ -1,3 +1,4 @@
+use Rattle.records.specs.Limits.{version1}
 use Rattle.records.specs.Refusals.{recordConditions}
 use Rattle.judgement.specs.Later.{laterConditions}
 use Rattle.filling.proofs.Stages.{refused-as, filled-as, accepted-as}
@@ -16,7 +17,7 @@ enum-known-number : tie.Need-enum-known-number
 enum-known-number c = search needs
 
 returns : tie.Need-returns
-returns c = refused-as _ recordConditions laterConditions _ (c .before .before .before .check-record .ensures) _ _ (c .before .number .given .1) _ _ _
+returns c = refused-as _ (recordConditions version1) (laterConditions version1) _ (c .before .before .before .check-record .ensures) _ _ (c .before .number .given .1) _ _ _
 
 enum-told : tie.Need-enum-told
 enum-told c = search needs
@@ -25,7 +26,7 @@ fill-record-requires : tie.Need-fill-record-requires
 fill-record-requires c κs = search needs
 
 returns-2 : tie.Need-returns-2
-returns-2 c = filled-as _ recordConditions laterConditions _ (c .before .before .before .before .before .before .check-record .ensures) (c .before .before .before .before .enum-told .given .1) _ _ _ _ (c .fill-record .ensures (accepted-as _ _ (c .before .before .before .before .before .before .check-record .ensures) (c .before .before .before .before .enum-told .given .1)))
+returns-2 c = filled-as _ (recordConditions version1) (laterConditions version1) _ (c .before .before .before .before .before .before .check-record .ensures) (c .before .before .before .before .enum-told .given .1) _ _ _ _ (c .fill-record .ensures (accepted-as _ _ (c .before .before .before .before .before .before .check-record .ensures) (c .before .before .before .before .enum-told .given .1)))
 
 pub fill-face-spec : {M : Type 1} → statement M
 fill-face-spec =

@@ -2,6 +2,7 @@ use mathlib.Core.Path.{_≡_}
 use mathlib.Core.List.{List}
 use Prim.Native.Nat.{ℕ}
 use denote.Ref.{now}
+use Rattle.records.specs.declared.limits.Limits.{Limits}
 use Rattle.records.specs.Refusals.{nowhere, wrongHeader, tooManyLoops, endsInCounts, tooFewPoints, tooManyPoints, wrongLength, firstBadReal, verdict}
 use Rattle.records.proofs.Search.{found, not-found}
 use Rattle.records.proofs.Counting as counting
@@ -31,11 +32,21 @@ face-6 c = face-5 (c .before .before .before)
 abbrev face-7 : tie.After-enum-told7 → List ℕ
 face-7 c = face-6 (c .before .before .before)
 
+-- the limits, where they are asked for
+abbrev limits-1 : tie.After-enum-told → Limits
+limits-1 c = c .before .before .before .before .args .limits
+
+abbrev limits-2 : tie.After-enum-told2 → Limits
+limits-2 c = limits-1 (c .before .before .before)
+
+abbrev limits-5 : tie.After-enum-told5 → Limits
+limits-5 c = limits-2 (c .before .before .before .before .before .before .before .before .before)
+
 -- what did not hold there
 past-1 : (c : tie.After-enum-told) → wrongHeader (face-1 c) ≡ nowhere
 past-1 c = not-found (c .before .before .wrong-header .ensures) (c .enum-told .given .1)
 
-past-2 : (c : tie.After-enum-told2) → tooManyLoops (face-2 c) ≡ nowhere
+past-2 : (c : tie.After-enum-told2) → tooManyLoops (limits-2 c) (face-2 c) ≡ nowhere
 past-2 c = not-found (c .before .before .too-many-loops .ensures) (c .enum-told2 .given .1)
 
 past-3 : (c : tie.After-enum-told3) → endsInCounts (face-3 c) ≡ nowhere
@@ -44,7 +55,7 @@ past-3 c = not-found (c .before .before .ends-in-counts .ensures) (c .enum-told3
 past-4 : (c : tie.After-enum-told4) → tooFewPoints (face-4 c) ≡ nowhere
 past-4 c = not-found (c .before .before .too-few-points .ensures) (c .enum-told4 .given .1)
 
-past-5 : (c : tie.After-enum-told5) → tooManyPoints (face-5 c) ≡ nowhere
+past-5 : (c : tie.After-enum-told5) → tooManyPoints (limits-5 c) (face-5 c) ≡ nowhere
 past-5 c = not-found (c .before .before .too-many-points .ensures) (c .enum-told5 .given .1)
 
 past-6 : (c : tie.After-enum-told6) → wrongLength (face-6 c) ≡ nowhere

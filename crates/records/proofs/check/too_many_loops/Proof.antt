@@ -7,10 +7,10 @@ loops-requires : tie.Need-loops-requires
 loops-requires c κs = search needs
 
 returns : tie.Need-returns
-returns c = counting.many-loops _ (c .before .loops .ensures .0) (c .if1 .taken)
+returns c = counting.many-loops _ _ (c .before .before .loops .ensures .0) (c .if1 .taken)
 
 returns-2 : tie.Need-returns-2
-returns-2 c = counting.few-loops _ (c .before .loops .ensures .0) (c .if1 .left)
+returns-2 c = counting.few-loops _ _ (c .before .before .loops .ensures .0) (c .if1 .left)
 
 pub too-many-loops-spec : {M : Type 1} → statement M
 too-many-loops-spec = tie.close (tie.spec loops-requires returns returns-2)

@@ -8,10 +8,10 @@ use Rattle.records.proofs.check.too_many_points.Statement.{statement}
 use Rattle.records.proofs.check.too_many_points.Tie as tie
 
 abbrev Inv-loop : tie.InvT-loop
-Inv-loop face l total₀ k₀ total k = counting.Totalling face total k × ((l ≡ loops face) × (l < 256))
+Inv-loop face limits l total₀ k₀ total k = counting.Totalling limits face total k × ((l ≡ loops face) × (l < 256))
 
 abbrev μ-loop : tie.MeasureT-loop
-μ-loop face l total₀ k₀ total k = l - k
+μ-loop face limits l total₀ k₀ total k = l - k
 
 loops-requires : tie.Need-loops-requires Inv-loop μ-loop
 loops-requires c κs = search needs
@@ -26,7 +26,7 @@ add-total : tie.Need-add-total Inv-loop μ-loop
 add-total c = omega arith
 
 returns : tie.Need-returns Inv-loop μ-loop
-returns c = counting.total-found (c .before .before .before .loop .inv .0) (omega arith) (c .before .count-at .ensures .0) (c .if1 .taken)
+returns c = counting.total-found (c .before .before .before .before .loop .inv .0) (omega arith) (c .before .before .count-at .ensures .0) (c .if1 .taken)
 
 add-k : tie.Need-add-k Inv-loop μ-loop
 add-k c = omega arith
@@ -36,7 +36,7 @@ loop-less c = omega arith
 
 loop-again : tie.Need-loop-again Inv-loop μ-loop
 loop-again c =
-    (counting.total-turn (c .before .before .before .loop .inv .0) (omega arith) (c .before .count-at .ensures .0) (c .if1 .left), c .before .before .before .loop .inv .1)
+    (counting.total-turn (c .before .before .before .before .loop .inv .0) (omega arith) (c .before .before .count-at .ensures .0) (c .before .before .count-at .ensures .1) (c .if1 .left), c .before .before .before .before .loop .inv .1)
 
 returns-2 : tie.Need-returns-2 Inv-loop μ-loop
 returns-2 c = counting.total-end (c .before .loop .inv .0) (omega arith)
