@@ -35,32 +35,34 @@ v-of c = c .v
 
 -- ---- the area of a loop
 
-pub area-sized : (j k X : ℕ) → j + k ≤ 40 → (r : Corners Vec3) → All (Sized (2 ^ j) (2 ^ k) X) r → length r ≤ 1024 → Within (2 ^ 50) (signedArea r)
-area-sized j k X few r h short =
-    pow-more (j + k + 10) 50 (signedArea r) (omega arith)
-    (area-within j k (omega arith) (us r) (vs r) (all-map u-of (λ c w. w .u) h) (all-map v-of (λ c w. w .v) h) (let e = length-map r u-of in omega arith))
+pub area-sized : (d : ℕ) → d ≤ 16 → (j k X : ℕ) → j + k ≤ 40 → (r : Corners Vec3) → All (Sized (2 ^ j) (2 ^ k) X) r → length r ≤ 2 ^ d
+    → Within (2 ^ (40 + d)) (signedArea r)
+area-sized d few-d j k X few r h short =
+    pow-more (j + k + d) (40 + d) (signedArea r) (omega arith)
+    (area-within j k (omega arith) (us r) (vs r) (all-map u-of (λ c w. w .u) h) (all-map v-of (λ c w. w .v) h) d few-d
+    (let e = length-map r u-of in rw e short))
 
--- ---- loops of a result, whose u are at most A and whose v are at most B
+-- ---- loops of a result of at most 2 ^ d corners, whose u are at most A and whose v are at most B
 
 abbrev pub SizedCorners : ℕ → ℕ → Corners Vec3 → Type 0
 SizedCorners A B r = All (Sized A B (2 ^ 32)) r
 
-pub record SizedLoop (A B : ℕ) (l : ResultLoop) : Type 0 where
-  pub area : Within (2 ^ 50) (l .area)
+pub record SizedLoop (d A B : ℕ) (l : ResultLoop) : Type 0 where
+  pub area : Within (2 ^ (40 + d)) (l .area)
   pub corners : SizedCorners A B (l .corners)
 
 pub sized-more : (A P A′ P′ : ℕ) → A ≤ A′ → P ≤ P′ → (c : Corner Vec3) → Sized A P Billion c → Sized A′ P′ (2 ^ 32) c
 sized-more A P A′ P′ a p c w = record { u = within-more A A′ (c .u) a (w .u); v = within-more P P′ (c .v) p (w .v); at = in-more Billion (2 ^ 32) (c .at) (lit≤ tt) (w .at) }
 
--- ---- loops as the record gives them, with u of at most G and v of at most H
+-- ---- loops as the record gives them, of at most 2 ^ d points, with u of at most G and v of at most H
 
-pub record GivenLoop (G H : ℕ) (r : Corners Vec3) : Type 0 where
+pub record GivenLoop (d G H : ℕ) (r : Corners Vec3) : Type 0 where
   pub some : 0 < length r
-  pub few : length r ≤ 1024
+  pub few : length r ≤ 2 ^ d
   pub sized : All (Sized G H Billion) r
   pub fit : All FitsCorner r
 
-module _ (G H : ℕ) (r : Corners Vec3) (h : GivenLoop G H r) where
+module _ (d : ℕ) (few-d : d ≤ 16) (G H : ℕ) (r : Corners Vec3) (h : GivenLoop d G H r) where
   us-given : All (Known G) (us r)
   us-given = all-map u-of (λ c w. record { within = w .0 .u; fits = w .1 .u }) (all-both (h .sized) (h .fit))
 
@@ -73,9 +75,9 @@ module _ (G H : ℕ) (r : Corners Vec3) (h : GivenLoop G H r) where
   vs-some : 0 < length (vs r)
   vs-some = let e = length-map r v-of in let s = h .some in omega arith
 
-  -- given within a million, it has an area of at most 2 ^ 50
-  pub area-given : G ≤ 2 ^ 20 → H ≤ 2 ^ 20 → Within (2 ^ 50) (signedArea r)
-  area-given g k = area-sized 20 20 (2 ^ 32) (lit≤ tt) r (all-so (sized-more G H (2 ^ 20) (2 ^ 20) g k) (h .sized)) (h .few)
+  -- given within a million, it has an area of at most 2 ^ 40 for each corner that it may have
+  pub area-given : G ≤ 2 ^ 20 → H ≤ 2 ^ 20 → Within (2 ^ (40 + d)) (signedArea r)
+  area-given g k = area-sized d few-d 20 20 (2 ^ 32) (lit≤ tt) r (all-so (sized-more G H (2 ^ 20) (2 ^ 20) g k) (h .sized)) (h .few)
 
 -- ---- a hole, moved
 
@@ -107,12 +109,12 @@ moved-within p G M way middle w {xs} h some = go (way .turns)
         let room = way .given in
         raised-within G 0 M (omega arith) (way .most) (shiftOf middle p xs) (subst (λ (q : Float). Within 0 (shiftOf middle q xs)) (sym e) (open-shift middle xs)) h
 
-module _ (G H A B : ℕ) (b : Branch) (across : Way (b .uperiod) G A) (along : Way (b .vperiod) H B) (umid : Known G (b .umid)) (vmid : Known H (b .vmid))
-    (r : Corners Vec3) (h : GivenLoop G H r) where
+module _ (d : ℕ) (few-d : d ≤ 16) (G H A B : ℕ) (b : Branch) (across : Way (b .uperiod) G A) (along : Way (b .vperiod) H B) (umid : Known G (b .umid)) (vmid : Known H (b .vmid))
+    (r : Corners Vec3) (h : GivenLoop d G H r) where
   record SizedParts (l : Rephase.Loop) : Type 0 where
     us : All (Within A) (l .us)
     vs : All (Within B) (l .vs)
-    area : Within (2 ^ 50) (l .area)
+    area : Within (2 ^ (40 + d)) (l .area)
 
   abbrev loop : Rephase.Loop
   loop = record { us = us r; vs = vs r; area = signedArea r }
@@ -130,16 +132,16 @@ module _ (G H A B : ℕ) (b : Branch) (across : Way (b .uperiod) G A) (along : W
       let most = across .most in
       let v-most = along .most in
       record {
-        us = all-so (λ x w. within-more G A x u-less (w .within)) (us-given G H r h);
-        vs = all-so (λ x w. within-more H B x v-less (w .within)) (vs-given G H r h);
-        area = area-given G H r h (omega arith) (omega arith);
+        us = all-so (λ x w. within-more G A x u-less (w .within)) (us-given d few-d G H r h);
+        vs = all-so (λ x w. within-more H B x v-less (w .within)) (vs-given d few-d G H r h);
+        area = area-given d few-d G H r h (omega arith) (omega arith);
       }
 
   moved-sized : SizedParts (moved su sv loop)
   unfolding moved
   moved-sized =
-      let us-are = moved-within (b .uperiod) G A across (b .umid) umid (us-given G H r h) (us-some G H r h) in
-      let vs-are = moved-within (b .vperiod) H B along (b .vmid) vmid (vs-given G H r h) (vs-some G H r h) in
+      let us-are = moved-within (b .uperiod) G A across (b .umid) umid (us-given d few-d G H r h) (us-some d few-d G H r h) in
+      let vs-are = moved-within (b .vperiod) H B along (b .vmid) vmid (vs-given d few-d G H r h) (vs-some d few-d G H r h) in
       let most = across .most in
       let v-most = along .most in
       let short = h .few in
@@ -147,7 +149,7 @@ module _ (G H A B : ℕ) (b : Branch) (across : Way (b .uperiod) G A) (along : W
         us = us-are;
         vs = vs-are;
         area = area-within 20 20 (lit≤ tt) _ _ (all-so (λ x w. within-more A (2 ^ 20) x most w) us-are) (all-so (λ x w. within-more B (2 ^ 20) x v-most w) vs-are)
-            (let e = length-map (us r) (raised su) in let f = length-map r u-of in omega arith);
+            d few-d (rw (length-map (us r) (raised su), length-map r u-of) short);
       }
 
   rephased-sized : SizedParts (rephased b loop)
@@ -158,7 +160,7 @@ module _ (G H A B : ℕ) (b : Branch) (across : Way (b .uperiod) G A) (along : W
       pick true = stays-sized
       pick false = moved-sized
 
-  hole-sized : SizedLoop A B (rephasedHole b r)
+  hole-sized : SizedLoop d A B (rephasedHole b r)
   unfolding rephasedHole
   hole-sized =
       let parts = rephased-sized in
@@ -170,22 +172,22 @@ module _ (G H A B : ℕ) (b : Branch) (across : Way (b .uperiod) G A) (along : W
 
 -- ---- the path
 
-pub closed-sized : (G H A B : ℕ) (up vp : Float) → Way up G A → Way vp H B → (ls : List (Corners Vec3)) → 0 < length ls → All (GivenLoop G H) ls
-    → All (SizedLoop A B) (closedLoops up vp ls)
+pub closed-sized : (d : ℕ) → d ≤ 16 → (G H A B : ℕ) (up vp : Float) → Way up G A → Way vp H B → (ls : List (Corners Vec3)) → 0 < length ls → All (GivenLoop d G H) ls
+    → All (SizedLoop d A B) (closedLoops up vp ls)
 unfolding closedLoops outerLoop holesOf
-closed-sized G H A B up vp across along ls some h =
+closed-sized d few-d G H A B up vp across along ls some h =
     let n : ℕ = outerNumber ls in
-    let outer : GivenLoop G H (outerLoop ls) = all-in h n [] (outer-below ls some) in
+    let outer : GivenLoop d G H (outerLoop ls) = all-in h n [] (outer-below ls some) in
     let b : Branch = branchOf up vp (outerLoop ls) in
     let u-less = across .given in
     let v-less = along .given in
     let most = across .most in
     let v-most = along .most in
-    let umid = middle-known G (omega arith) (us-given G H (outerLoop ls) outer) (us-some G H (outerLoop ls) outer) in
-    let vmid = middle-known H (omega arith) (vs-given G H (outerLoop ls) outer) (vs-some G H (outerLoop ls) outer) in
+    let umid = middle-known G (omega arith) (us-given d few-d G H (outerLoop ls) outer) (us-some d few-d G H (outerLoop ls) outer) in
+    let vmid = middle-known H (omega arith) (vs-given d few-d G H (outerLoop ls) outer) (vs-some d few-d G H (outerLoop ls) outer) in
     and
     (record {
-      area = area-given G H (outerLoop ls) outer (omega arith) (omega arith);
+      area = area-given d few-d G H (outerLoop ls) outer (omega arith) (omega arith);
       corners = all-so (sized-more G H A B u-less v-less) (outer .sized);
     })
-    (all-map (rephasedHole b) (hole-sized G H A B b across along umid vmid) (all-append (all-take n h) (all-drop (n + 1) h)))
+    (all-map (rephasedHole b) (hole-sized d few-d G H A B b across along umid vmid) (all-append (all-take n h) (all-drop (n + 1) h)))

@@ -7,7 +7,7 @@ use mathlib.Core.Bool.{Bool, true, false, cond}
 use mathlib.Core.List.{List, foldl}
 use lib.Dec.{T, lit<, lit≤}
 use lib.IntN.{natAbs}
-use lib.Pow.{pow-add}
+use lib.Pow.{pow-add, pow-mono}
 use lib.ListN.{length, getD}
 use lib.Ieee.{Float, nan, inf, fin, binary64, fits, lt}
 use lib.Ieee.Fits.{sub-fits, mul-fits}
@@ -176,7 +176,7 @@ pub open-shift : (middle : Float) (xs : List Float) → Within 0 (shiftOf middle
 unfolding shiftOf lt lib.Ieee.ofBits
 open-shift middle xs = zero-within 0
 
--- ---- the area of at most 1,024 corners with parameters of at most 2 ^ j and 2 ^ k
+-- ---- the area of at most 2 ^ d corners with parameters of at most 2 ^ j and 2 ^ k
 
 module _ (j k : ℕ) (small : j + k ≤ 800) (us vs : List Float) (hu : All (Within (2 ^ j)) us) (hv : All (Within (2 ^ k)) vs) where
   cross-within : (i n : ℕ) → i < length us → i < length vs → n < length us → n < length vs → Within (2 ^ suc (j + k)) (crossAt us vs i n)
@@ -201,22 +201,25 @@ module _ (j k : ℕ) (small : j + k ≤ 800) (us vs : List Float) (hu : All (Wit
       ends : (m c : ℕ) → m * c + c ≡ suc m * c
       ends m c = omega arith
 
-  pub area-within : length us ≤ 1024 → Within (2 ^ (j + k + 10)) (areaOf us vs)
+  pub area-within : (d : ℕ) → d ≤ 16 → length us ≤ 2 ^ d → Within (2 ^ (j + k + d)) (areaOf us vs)
   unfolding areaOf
-  area-within few =
+  area-within d short few =
       let n = min (length us) (length vs) in
-      half-within (2 ^ (j + k + 10)) (crossSum us vs n n) (held-pow (j + k + 10) (omega arith))
-      (within-more (n * 2 ^ suc (j + k)) (2 ^ (j + k + 10) + 2 ^ (j + k + 10)) (crossSum us vs n n)
-      (le-trans (mul-le-mul-right (2 ^ suc (j + k)) (least few)) (le-of-eq (powers (j + k))))
-      (sum-within n n (omega arith) (omega arith) (omega arith) (omega arith)))
+      half-within (2 ^ (j + k + d)) (crossSum us vs n n) (held-pow (j + k + d) (omega arith))
+      (within-more (n * 2 ^ suc (j + k)) (2 ^ (j + k + d) + 2 ^ (j + k + d)) (crossSum us vs n n)
+      (le-trans (mul-le-mul-right (2 ^ suc (j + k)) (least (2 ^ d) few)) (le-of-eq (powers (j + k))))
+      (sum-within n n (omega arith) (omega arith) (counted (2 ^ d) few (pow-mono short)) (omega arith)))
     where
-      least : length us ≤ 1024 → min (length us) (length vs) ≤ 2 ^ 10
-      least few = omega arith
+      least : (P : ℕ) → length us ≤ P → min (length us) (length vs) ≤ P
+      least P few = omega arith
 
-      powers : (e : ℕ) → 2 ^ 10 * 2 ^ suc e ≡ 2 ^ (e + 10) + 2 ^ (e + 10)
-      powers e = sym (pow-add 2 10 (suc e)) ∙ ap (λ (z : ℕ). 2 ^ z) (exponents e) ∙ pow-suc 2 (e + 10) ∙ mul-comm (2 ^ (e + 10)) 2 ∙ two-mul (2 ^ (e + 10))
+      counted : (P : ℕ) → length us ≤ P → P ≤ 2 ^ 16 → min (length us) (length vs) < 2 ^ 52
+      counted P few most = omega arith
+
+      powers : (e : ℕ) → 2 ^ d * 2 ^ suc e ≡ 2 ^ (e + d) + 2 ^ (e + d)
+      powers e = sym (pow-add 2 d (suc e)) ∙ ap (λ (z : ℕ). 2 ^ z) (exponents e) ∙ pow-suc 2 (e + d) ∙ mul-comm (2 ^ (e + d)) 2 ∙ two-mul (2 ^ (e + d))
         where
-          exponents : (e : ℕ) → 10 + suc e ≡ suc (e + 10)
+          exponents : (e : ℕ) → d + suc e ≡ suc (e + d)
           exponents e = omega arith
 
 -- ---- the rungs between two bounded reals

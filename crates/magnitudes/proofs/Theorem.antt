@@ -8,6 +8,7 @@ use native.Mathlib.Nat.{le-refl, le-trans}
 use native.Mathlib.Omega.{arith}
 use borrow.Author.Tests.{eqb-false, leb-true, ne-eqb}
 use lib.Dec.{leb, lit≤}
+use lib.Pow.{pow-mono}
 use lib.ListN.{length, drop}
 use lib.Ieee.{Float}
 use Rattle.numbers.specs.Within.{Within}
@@ -24,16 +25,18 @@ use Rattle.tables.specs.Corners.{Corner, Corners}
 use Rattle.bands.specs.Given.{Measured, givenOf}
 use Rattle.records.specs.Accepted.{Accepted}
 use Rattle.records.specs.Bytes.{_=?_}
+use Rattle.records.specs.Call as Call
 use Rattle.records.specs.Call.{Outcome, refused, closed, code, lentAfter}
 use Rattle.records.specs.Face.{kind, loops, realOf}
-use Rattle.records.specs.Encodable.{version1-encodable}
+use Rattle.records.specs.declared.limits.Limits.{Limits}
+use Rattle.records.specs.Encodable.{Encodable, version1-encodable}
 use Rattle.records.specs.Limits.{version1, plane, cone}
-use Rattle.records.specs.Refusals.{NoneHolds}
+use Rattle.records.specs.Refusals.{conditions, NoneHolds}
 use Rattle.records.specs.Result.{Result, All, none, and, decode, cornersOf, resultOf}
 use Rattle.records.specs.Result as Result
 use Rattle.records.proofs.Closing.{closed-accepted, closed-read}
 use Rattle.judgement.specs.Face.{surfaceOf, surfaceIn, uPeriodIn, vPeriodIn, loopsIn, measuredIn, isWrapping, wrapping, settingIn, givenIn}
-use Rattle.judgement.specs.Judge.{allConditions, judge}
+use Rattle.judgement.specs.Judge.{result, judge}
 use Rattle.judgement.specs.Later.{laterConditions, stripPoints}
 use Rattle.judgement.specs.Paths.{ResultLoop, signedArea, loopsFrom, wrappedLoops, closedLoops, wholeLoop, uvOf, xyzOf, pathIn, resultLoops, resultIn}
 use Rattle.judgement.proofs.Demands.{two-wrap, strip-short, rings-whole, passed, can-be-written, over-zero}
@@ -42,7 +45,7 @@ use Rattle.judgement.proofs.Each.{all-append, all-only, all-map, all-so}
 use Rattle.judgement.proofs.Loops.{loops-many, loops-total, loops-fit, given-each}
 use Rattle.judgement.proofs.Sizes.{total, each-short}
 use Rattle.judgement.proofs.Strips.{High, lower-low, upper-high}
-use Rattle.magnitudes.specs.Bounded.{EachReal, mostArea, mostAngle, mostPlaneU, mostHeight, mostU, mostV, mostCoordinate, ResultBounded}
+use Rattle.magnitudes.specs.Bounded.{EachReal, Bounded, mostAngle, mostPlaneU, mostHeight, mostU, mostV, mostCoordinate, ResultBounded}
 use Rattle.magnitudes.proofs.Bands.{curved, outer-sized, holes-sized}
 use Rattle.magnitudes.proofs.Closed.{SizedCorners, SizedLoop, GivenLoop, Way, area-sized, area-given, closed-sized}
 use Rattle.magnitudes.proofs.Loops.{all-both, Known}
@@ -122,13 +125,28 @@ u-few k = go (k =? plane)
     go true = lit≤ tt
     go false = lit≤ tt
 
-loop-more : (A B A′ B′ : ℕ) → A ≤ A′ → B ≤ B′ → (l : ResultLoop) → SizedLoop A B l → SizedLoop A′ B′ l
+loop-more : {d : ℕ} (A B A′ B′ : ℕ) → A ≤ A′ → B ≤ B′ → (l : ResultLoop) → SizedLoop d A B l → SizedLoop d A′ B′ l
 loop-more A B A′ B′ h k l w = record {
   area = w .area;
   corners = all-so (λ c r. record { u = within-more A A′ (c .u) h (r .u); v = within-more B B′ (c .v) k (r .v); at = r .at }) (w .corners);
 }
 
-module _ (s : List ℕ) (a : Accepted version1 s) where
+-- a loop of a result has at most 2 ^ d corners
+record Counted (L : Limits) (d : ℕ) : Type 0 where
+  points : L .points ≤ 2 ^ d
+  strip : L .strip ≤ 2 ^ d
+  -- the boundary of a whole surface
+  whole : 10 ≤ d
+  few : d ≤ 16
+
+version1-counted : Counted version1 10
+version1-counted = record { points = lit≤ tt; strip = lit≤ tt; whole = lit≤ tt; few = lit≤ tt }
+
+-- the corners of a loop are counted in two bytes
+any-counted : {L : Limits} → Encodable L → Counted L 16
+any-counted {L} fit = let n = fit .short-loops in record { points = omega arith; strip = omega arith; whole = lit≤ tt; few = lit≤ tt }
+
+module _ {L : Limits} (d : ℕ) (counted : Counted L d) (s : List ℕ) (a : Accepted L s) where
   abbrev G : ℕ
   G = givenU (kind s)
 
@@ -144,11 +162,12 @@ module _ (s : List ℕ) (a : Accepted version1 s) where
   few : Heights H (movedV (kind s)) B
   few = heights-of (kind s)
 
-  given-loops : All (GivenLoop G H) (loopsIn s)
+  given-loops : All (GivenLoop d G H) (loopsIn s)
   given-loops =
       let all = loops-total s in
       let most = a .total in
-      all-so (λ r w. record { some = w .0 .0; few = (let n = w .0 .1 in omega arith); sized = w .1 .0; fit = w .1 .1 })
+      all-so (λ r w. let n : length r ≤ L .points = (let m = w .0 .1 in omega arith) in
+      record { some = w .0 .0; few = le-trans n (counted .points); sized = w .1 .0; fit = w .1 .1 })
       (all-both (all-both (loops-some s a) (each-short (loopsIn s))) (all-both (loops-sized s a) (loops-fit s)))
 
   -- on a curved surface u is at most 64
@@ -164,10 +183,10 @@ module _ (s : List ℕ) (a : Accepted version1 s) where
 
   -- ---- the closed path
 
-  closed-path : (loops s ≡ 0 → ⊥) → All (SizedLoop A (movedV (kind s))) (closedLoops (uPeriodIn s) (vPeriodIn s) (loopsIn s))
+  closed-path : (loops s ≡ 0 → ⊥) → All (SizedLoop d A (movedV (kind s))) (closedLoops (uPeriodIn s) (vPeriodIn s) (loopsIn s))
   unfolding surfaceIn
   closed-path some =
-      closed-sized G H A (movedV (kind s)) (uPeriodIn s) (vPeriodIn s) (u-way (kind s) (realOf s 9) (realOf s 10)) (v-way (kind s) (realOf s 9) (realOf s 10)) (loopsIn s)
+      closed-sized d (counted .few) G H A (movedV (kind s)) (uPeriodIn s) (vPeriodIn s) (u-way (kind s) (realOf s 9) (realOf s 10)) (v-way (kind s) (realOf s 9) (realOf s 10)) (loopsIn s)
       (let n = loops-many s in omega arith) given-loops
 
   -- ---- a band
@@ -177,18 +196,18 @@ module _ (s : List ℕ) (a : Accepted version1 s) where
   unfolding givenIn givenOf measuredIn
   holes-given Q h = all-map (λ (m : Measured Vec3). m .corners) (λ m w. w) (all-only (λ (m : Measured Vec3). not (isWrapping m)) (λ m e w. w) (all-map {Q = λ (m : Measured Vec3). Q (m .corners)} _ (λ r w. w) h))
 
-  loops-of-sized : {areas : List Float} {ls : List (Corners Vec3)} → All (Within (2 ^ 50)) areas → All (SizedCorners mostAngle B) ls → All (SizedLoop mostAngle B) (loopsFrom areas ls)
+  loops-of-sized : {areas : List Float} {ls : List (Corners Vec3)} → All (Within (2 ^ (40 + d))) areas → All (SizedCorners mostAngle B) ls → All (SizedLoop d mostAngle B) (loopsFrom areas ls)
   unfolding loopsFrom
   loops-of-sized none hs = none
   loops-of-sized (and h areas) none = none
   loops-of-sized (and h areas) (and k hs) = and (record { area = h; corners = k }) (loops-of-sized areas hs)
 
-  module _ (lent : ℕ) (free : NoneHolds (allConditions lent) s) (some : wrapping s ≡ 0 → ⊥) where
+  module _ (lent : ℕ) (free : NoneHolds (conditions L lent ++ laterConditions L) s) (some : wrapping s ≡ 0 → ⊥) where
     rings-given : GivenReach 64 (givenIn s)
     rings-given =
         let near = loops-near (curved s some) in
         let each = given-each s (λ (c : Corner Vec3). Known 64 (c .u)) near in
-        let whole = rings-whole version1 lent s free (two-wrap s (free 9) (free 10) some) in
+        let whole = rings-whole L lent s free (two-wrap s (free 9) (free 10) some) in
         record {
           first = record { some = whole .some-first; each = each .first };
           later = record { some = whole .some-later; each = each .later };
@@ -199,11 +218,11 @@ module _ (s : List ℕ) (a : Accepted version1 s) where
     lower-high : All (λ (c : Corner Vec3). High s a (c .v)) (lowerRing (settingIn s) (givenIn s))
     lower-high = all-so (λ c low past. within-more 64 71 (c .v) (lit≤ tt) (low past)) (lower-low s a)
 
-    outer-few : length (outer (settingIn s) (givenIn s)) ≤ 1024
+    outer-few : length (outer (settingIn s) (givenIn s)) ≤ L .strip
     unfolding outer stripPoints
     outer-few =
         let h = repeats-fewer (λ (c d : Corner Vec3). settingIn s .same (c .at) (d .at)) (stripOf (settingIn s) (givenIn s)) in
-        let n = strip-short version1 lent s free some in
+        let n = strip-short L lent s free some in
         omega arith
 
     -- v and the positions as given
@@ -214,64 +233,76 @@ module _ (s : List ℕ) (a : Accepted version1 s) where
     powers : (c : Corner Vec3) → Sized mostAngle B (2 ^ 32) c → Sized (2 ^ 10) (2 ^ 22) (2 ^ 32) c
     powers c w = record { u = within-more mostAngle (2 ^ 10) (c .u) (lit≤ tt) (w .u); v = within-more B (2 ^ 22) (c .v) (few .most) (w .v); at = w .at }
 
-    wrapped-path : All (SizedLoop mostAngle B) (wrappedLoops s)
+    wrapped-path : All (SizedLoop d mostAngle B) (wrappedLoops s)
     unfolding wrappedLoops
     wrapped-path =
         let u = u-way (kind s) (realOf s 9) (realOf s 10) in
         let v = v-way (kind s) (realOf s 9) (realOf s 10) in
         let outer-are = outer-sized s a H B (few .given) (few .rungs) (few .most) some rings-given loops-kept lower-high (upper-high s a) in
-        and (record { area = area-sized 10 22 (2 ^ 32) (lit≤ tt) (outer (settingIn s) (givenIn s)) (all-so powers outer-are) outer-few; corners = outer-are })
-        (loops-of-sized (all-map signedArea (λ r h. area-given G H r h (le-trans (u .given) (u .most)) (le-trans (v .given) (v .most))) (holes-given (GivenLoop G H) given-loops))
+        and (record { area = area-sized d (counted .few) 10 22 (2 ^ 32) (lit≤ tt) (outer (settingIn s) (givenIn s)) (all-so powers outer-are) (le-trans outer-few (counted .strip)); corners = outer-are })
+        (loops-of-sized (all-map signedArea (λ r h. area-given d (counted .few) G H r h (le-trans (u .given) (u .most)) (le-trans (v .given) (v .most))) (holes-given (GivenLoop d G H) given-loops))
         (holes-sized s a H B (few .given) (few .rungs) (few .most) some rings-given loops-kept lower-high (upper-high s a)))
 
   -- ---- the three paths
 
-  module _ (lent : ℕ) (free : NoneHolds (allConditions lent) s) where
-    loops-of-result : All (SizedLoop A B) (resultLoops s)
+  module _ (lent : ℕ) (free : NoneHolds (conditions L lent ++ laterConditions L) s) where
+    loops-of-result : All (SizedLoop d A B) (resultLoops s)
     unfolding resultLoops
     loops-of-result = pick (loops s =? 0) (wrapping s =? 0) refl refl
       where
-        pick : (p q : Bool) → (loops s =? 0) ≡ p → (wrapping s =? 0) ≡ q → All (SizedLoop A B) (cond p (wholeLoop s ∷ []) (cond q (closedLoops (uPeriodIn s) (vPeriodIn s) (loopsIn s)) (wrappedLoops s)))
-        pick true q d e = and (loop-more 21 21 A B (angle-most 21 (kind s) (lit≤ tt)) (few .whole) _ (whole-sized s (frame-framed s a) (sizes-in s a))) none
-        pick false true d e = all-so (loop-more A (movedV (kind s)) A B (le-refl A) (few .moved)) (closed-path (eqb-false (loops s) 0 d))
-        pick false false d e = all-so (loop-more mostAngle B A B (angle-most mostAngle (kind s) (lit≤ tt)) (le-refl B)) (wrapped-path lent free (eqb-false (wrapping s) 0 e))
+        pick : (p q : Bool) → (loops s =? 0) ≡ p → (wrapping s =? 0) ≡ q → All (SizedLoop d A B) (cond p (wholeLoop s ∷ []) (cond q (closedLoops (uPeriodIn s) (vPeriodIn s) (loopsIn s)) (wrappedLoops s)))
+        pick true q o e = and (loop-more 21 21 A B (angle-most 21 (kind s) (lit≤ tt)) (few .whole) _ (whole-sized d (counted .whole) s (frame-framed s a) (sizes-in s a))) none
+        pick false true o e = all-so (loop-more A (movedV (kind s)) A B (le-refl A) (few .moved)) (closed-path (eqb-false (loops s) 0 o))
+        pick false false o e = all-so (loop-more mostAngle B A B (angle-most mostAngle (kind s) (lit≤ tt)) (le-refl B)) (wrapped-path lent free (eqb-false (wrapping s) 0 e))
 
 -- ---- the bytes
 
-all-corners : (A B : ℕ) {ls : List ResultLoop} → All (SizedLoop A B) ls → SizedCorners A B (cornersOf ls)
+all-corners : {d : ℕ} (A B : ℕ) {ls : List ResultLoop} → All (SizedLoop d A B) ls → SizedCorners A B (cornersOf ls)
 unfolding cornersOf
 all-corners A B none = none
 all-corners A B (and h hs) = all-append (h .corners) (all-corners A B hs)
 
 -- all reals of a result that is made of such loops
-abbrev Held : ℕ → ℕ → Result → Type 0
-Held A B = EachReal (Within mostArea) (Within A) (Within B) (Within mostCoordinate)
+abbrev Held : ℕ → ℕ → ℕ → Result → Type 0
+Held d A B = EachReal (Within (2 ^ (40 + d))) (Within A) (Within B) (Within mostCoordinate)
 
-result-within : (A B path : ℕ) {ls : List ResultLoop} → All (SizedLoop A B) ls → Held A B (resultOf uvOf xyzOf path ls)
+result-within : (d A B path : ℕ) {ls : List ResultLoop} → All (SizedLoop d A B) ls → Held d A B (resultOf uvOf xyzOf path ls)
 unfolding resultOf
-result-within A B path h =
+result-within d A B path h =
     let cs = all-corners A B h in
     record { areas = all-map Result.areaOf (λ l w. w .area) h; us = all-map uvOf (λ c w. w .u) cs; vs = all-map uvOf (λ c w. w .v) cs; positions = all-map xyzOf (λ c w. w .at) cs }
 
-bytes-within : (lent : ℕ) (s b : List ℕ) → judge lent s ≡ closed b → (rest : List ℕ) → Held (mostU (kind s)) (mostV (kind s)) (decode (b ++ rest))
+bytes-within : (L : Limits) (fit : Encodable L) (d : ℕ) → Counted L d → (lent : ℕ) (s b : List ℕ) → Call.judge L (laterConditions L) result lent s ≡ closed b
+    → (rest : List ℕ) → Held d (mostU (kind s)) (mostV (kind s)) (decode (b ++ rest))
 unfolding resultIn
-bytes-within lent s b h rest =
-    subst (Held (mostU (kind s)) (mostV (kind s))) (sym (closed-read version1 (laterConditions version1) resultIn lent s b h (can-be-written version1 version1-encodable lent s b h) rest))
-    (result-within (mostU (kind s)) (mostV (kind s)) (pathIn s) (loops-of-result s (closed-accepted version1 (laterConditions version1) resultIn lent s b h) lent (passed version1 version1-encodable lent s b h)))
+bytes-within L fit d counted lent s b h rest =
+    subst (Held d (mostU (kind s)) (mostV (kind s))) (sym (closed-read L (laterConditions L) resultIn lent s b h (can-be-written L fit lent s b h) rest))
+    (result-within d (mostU (kind s)) (mostV (kind s)) (pathIn s)
+    (loops-of-result d counted s (closed-accepted L (laterConditions L) resultIn lent s b h) lent (passed L fit lent s b h)))
 
 -- all are below 10 ^ 24
-far-below : (A B : ℕ) → A ≤ 10 ^ 24 → B ≤ 10 ^ 24 → (r : Result) → Held A B r → EachReal (Within (10 ^ 24)) (Within (10 ^ 24)) (Within (10 ^ 24)) (Within (10 ^ 24)) r
-far-below A B u-few v-few r h = record {
-  areas = all-so (λ x w. within-more mostArea (10 ^ 24) x (lit≤ tt) w) (h .areas);
+far-below : (d A B : ℕ) → d ≤ 16 → A ≤ 10 ^ 24 → B ≤ 10 ^ 24 → (r : Result) → Held d A B r → EachReal (Within (10 ^ 24)) (Within (10 ^ 24)) (Within (10 ^ 24)) (Within (10 ^ 24)) r
+far-below d A B few u-few v-few r h = record {
+  areas = all-so (λ x w. within-more (2 ^ (40 + d)) (10 ^ 24) x (le-trans (pow-mono most-area) (lit≤ tt)) w) (h .areas);
   us = all-so (λ p w. within-more A (10 ^ 24) (p .u) u-few w) (h .us);
   vs = all-so (λ p w. within-more B (10 ^ 24) (p .v) v-few w) (h .vs);
   positions = all-so (λ p w. record { x = most (p .x) (w .x); y = most (p .y) (w .y); z = most (p .z) (w .z) }) (h .positions);
 }
   where
+    most-area : 40 + d ≤ 56
+    most-area = omega arith
+
     most : (x : Float) → Within mostCoordinate x → Within (10 ^ 24) x
     most x w = within-more mostCoordinate (10 ^ 24) x (lit≤ tt) w
 
--- the bounds of each real of the lent bytes, from which those that are claimed follow
+-- by any limits whose results can be encoded, no real that is read back is over 10 ^ 24
+pub any-bounded : (L : Limits) → Encodable L → (lent : ℕ) (s b : List ℕ) → Call.judge L (laterConditions L) result lent s ≡ closed b
+    → (rest : List ℕ) → Bounded (b ++ rest)
+any-bounded L fit lent s b h rest =
+    far-below 16 (mostU (kind s)) (mostV (kind s)) (lit≤ tt) (u-few (kind s)) (le-trans (heights-of (kind s) .most) (lit≤ tt)) (decode (b ++ rest))
+    (bytes-within L fit 16 (any-counted fit) lent s b h rest)
+
+-- the bounds of each real of the lent bytes by the limits of version 1
 module _ (s old : List ℕ) where
   abbrev lent : ℕ
   lent = length old
@@ -280,10 +311,10 @@ module _ (s old : List ℕ) where
   bounded-of (refused n p) e =
       let some = over-zero s old n p e in
       record { bounded = λ z. absurd (omega arith); narrow = λ z. absurd (omega arith) }
-  bounded-of (closed b) e =
-      let new = b ++ drop (length b) old in
-      let each = bytes-within lent s b e (drop (length b) old) in
-      record { bounded = λ z. far-below (mostU (kind s)) (mostV (kind s)) (u-few (kind s)) (le-trans (heights-of (kind s) .most) (lit≤ tt)) (decode new) each; narrow = λ z. each }
+  bounded-of (closed b) e = record {
+    bounded = λ z. any-bounded version1 version1-encodable lent s b e (drop (length b) old);
+    narrow = λ z. bytes-within version1 version1-encodable 10 version1-counted lent s b e (drop (length b) old);
+  }
 
   pub result-bounded : ResultBounded s (code (judge lent s)) (lentAfter (judge lent s) old)
   result-bounded = bounded-of (judge lent s) refl

@@ -1,5 +1,5 @@
 -- Whole surfaces: the corners of a sphere or a torus have bounded parameters, positions and areas.
-use Prim.Native.Nat.{ℕ, _^_, _≤_}
+use Prim.Native.Nat.{ℕ, _+_, _^_, _≤_}
 use mathlib.Core.List.{List, map}
 use native.Mathlib.Omega.{arith}
 use lib.Dec.{lit<, lit≤}
@@ -12,7 +12,7 @@ use Rattle.numbers.specs.declared.math.Interval.{Interval}
 use Rattle.numbers.specs.declared.math.Vec2.{Vec2}
 use Rattle.numbers.specs.declared.math.Vec3.{Vec3}
 use Rattle.numbers.proofs.Fractions.{turn-within}
-use Rattle.numbers.proofs.Magnitude.{held-small, within-more, neg-within, sub-within, pick-within, zero-within}
+use Rattle.numbers.proofs.Magnitude.{held-small, within-more, pow-more, neg-within, sub-within, pick-within, zero-within}
 use Rattle.numbers.proofs.math.Frames.{In, Framed}
 use Rattle.surfaces.specs.declared.options.Resolved.{Resolved}
 use Rattle.surfaces.specs.declared.surface.Period.{Period}
@@ -121,8 +121,11 @@ area-whole s o =
     let cs = wholeCorners s o in
     area-within 20 20 (lit≤ tt) (usOf cs) (vsOf cs) (all-map (λ (c : Vec2). c .u) (λ c h. within-more 21 (2 ^ 20) (c .u) (lit≤ tt) (h .u)) (corners-within s o))
     (all-map (λ (c : Vec2). c .v) (λ c h. within-more 21 (2 ^ 20) (c .v) (lit≤ tt) (h .v)) (corners-within s o))
-    (let n = few-corners s o in let e = length-map cs (λ (c : Vec2). c .u) in omega arith)
+    10 (lit≤ tt) (let n = few-corners s o in let e = length-map cs (λ (c : Vec2). c .u) in omega arith)
 
-pub whole-sized : (s : List ℕ) → Framed (frameIn s) → Sizes (surfaceIn s) → SizedLoop 21 21 (wholeLoop s)
+pub whole-sized : (d : ℕ) → 10 ≤ d → (s : List ℕ) → Framed (frameIn s) → Sizes (surfaceIn s) → SizedLoop d 21 21 (wholeLoop s)
 unfolding wholeLoop
-whole-sized s w z = record { area = area-whole (surfaceIn s) (optionsIn s); corners = corners-whole (frameIn s) w (surfaceIn s) (optionsIn s) z }
+whole-sized d some s w z = record {
+  area = pow-more 50 (40 + d) (wholeArea (surfaceIn s) (optionsIn s)) (omega arith) (area-whole (surfaceIn s) (optionsIn s));
+  corners = corners-whole (frameIn s) w (surfaceIn s) (optionsIn s) z;
+}
