@@ -42,7 +42,7 @@ fn boundary(check: &mut Check, edge: bool, shape: &Shape) {
 
     if n > 0 {
         let few = lent[..n - 1 - check.random.below(5) as usize].to_vec();
-        see_lent(check, edge, shape, few.clone(), (area, few));
+        see_lent(check, edge, shape, few.clone(), (0.0, few));
     }
 }
 

@@ -3,7 +3,7 @@ ghost use mathlib.Core.Path.{_≡_};
 ghost use lib.ListN.{length};
 ghost use Rattle.lists.specs.Placed.{placed};
 ghost use Rattle.tables.specs.Rows.{rows};
-ghost use Rattle.whole.specs.Boundary.{CountEnds, wholeCorners, wholeArea};
+ghost use Rattle.whole.specs.Boundary.{CountEnds, wholeCorners, areaWithin};
 ghost use Rattle.whole.specs.Table.{wholeRows, RowsReach};
 ghost use Rattle.compared.specs.Points.{frameOf};
 ghost use Rattle.compared.specs.Surfaces.{surfaceOf, resolvedOf};
@@ -43,7 +43,7 @@ pub extern "C" fn compared_full_domain_loop(
     segments: usize,
     t: &mut [f64],
 ) -> f64
-    ensures { λ r. ⌜ r ≡ wholeArea (surfaceOf kind a b) (resolvedOf sag angle segments) ⌝ }
+    ensures { λ r. ⌜ r ≡ areaWithin (length (rows (now (t .entry)))) (surfaceOf kind a b) (resolvedOf sag angle segments) ⌝ }
     ensures { λ _. ⌜ rows (now (t .exit)) ≡ placed 0 (wholeRows (surfaceOf kind a b) (frameOf frame) (resolvedOf sag angle segments)) (rows (now (t .entry))) ⌝ }
     ensures { λ _. ⌜ RowsReach (surfaceOf kind a b) (resolvedOf sag angle segments) (length (rows (now (t .entry)))) (rows (now (t .exit))) ⌝ }
 {

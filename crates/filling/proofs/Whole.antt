@@ -14,9 +14,9 @@ use Rattle.surfaces.specs.declared.surface.Surface.{Surface}
 use Rattle.tables.specs.Corners.{Corners}
 use Rattle.tables.specs.Rows.{rows}
 use Rattle.tables.proofs.Rows.{length-rows}
-use Rattle.whole.specs.Boundary.{wholeCorners, wholeArea}
+use Rattle.whole.specs.Boundary.{wholeCorners, wholeArea, areaWithin}
 use Rattle.whole.specs.Table.{placedCorner, wholeRows}
-use Rattle.whole.proofs.boundary.Meaning.{few-corners}
+use Rattle.whole.proofs.boundary.Meaning.{few-corners, area-fits}
 use Rattle.records.specs.Face.{loops}
 use Rattle.records.specs.Refusals.{passes}
 use Rattle.records.specs.Result.{cornersOf, countOf, areaOf}
@@ -41,7 +41,7 @@ module _ (s : List ℕ) (bare : loops s ≡ 0) (surface : Surface) (frame : Fram
   unfolding wholeRows
   rows-many = length-map (wholeCorners surface options) (placedCorner surface frame)
 
-  pub whole-filled : (c₀ c : List ℕ) (a₀ a t₀ t : List Float) (n : ℕ) (area : Float) → n ≡ length (wholeCorners surface options) → area ≡ wholeArea surface options
+  pub whole-filled : (c₀ c : List ℕ) (a₀ a t₀ t : List Float) (n : ℕ) (area : Float) → n ≡ length (wholeCorners surface options) → area ≡ areaWithin (length (rows t₀)) surface options
       → c ≡ set c₀ 0 n → a ≡ set a₀ 0 area → rows t ≡ placed 0 (wholeRows surface frame options) (rows t₀)
       → length c₀ ≡ 16 → length a₀ ≡ 16 → length t₀ ≡ 7680 → FillsTo passes s (Face Whole 1) c a t
   unfolding cornersOf
@@ -54,6 +54,6 @@ module _ (s : List ℕ) (bare : loops s ≡ 0) (surface : Surface) (frame : Fram
       filled-by s Whole (boundary ∷ []) 1 c a t (path-whole s bare) (boundary-is ∙ sym (takes-whole s bare)) refl
       (held-in-front (boundary ∷ []) c₀ c a₀ a (rows t₀) t
       (c-is ∙ set-front n c₀ (omega arith) ∙ ap (λ (k : ℕ). placed 0 (k ∷ []) c₀) (n-is ∙ sym many))
-      (a-is ∙ set-front area a₀ (omega arith) ∙ ap (λ (x : Float). placed 0 (x ∷ []) a₀) area-is)
+      (a-is ∙ set-front area a₀ (omega arith) ∙ ap (λ (x : Float). placed 0 (x ∷ []) a₀) (area-is ∙ area-fits surface options (length (rows t₀)) (omega arith)))
       (t-is ∙ ap (λ (w : Corners Vec3). placed 0 w (rows t₀)) (sym corners))
       (omega arith) (omega arith) (omega arith))

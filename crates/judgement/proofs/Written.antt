@@ -26,7 +26,7 @@ use Rattle.regions.specs.Outer.{holesOf}
 use Rattle.regions.specs.Rephase.{shiftOf, moved, rephased}
 use Rattle.regions.specs.Rephase as Rephase
 use Rattle.regions.specs.declared.rephase.Branch.{Branch}
-use Rattle.whole.specs.Boundary.{sides, sidesOf, uRungs, vRungs, wholeCorners, positionOf, wholeArea}
+use Rattle.whole.specs.Boundary.{sides, sidesOf, rungsOf, wholeCorners, positionOf, wholeArea}
 use Rattle.whole.proofs.boundary.Meaning.{few-corners}
 use Rattle.bands.specs.Band.{stripOf, outer, holes}
 use Rattle.tables.specs.Corners.{Corner, Corners, us, vs, positions}
@@ -231,7 +231,7 @@ quarters-fit : FitsInterval (between (neg H) H)
 quarters-fit = record { lo = neg-fits binary64 H (ofBits-fits binary64 _); hi = ofBits-fits binary64 _ }
 
 whole-corners-fit : (s : Surface) (o : Resolved) → All FitsUv (wholeCorners s o)
-unfolding wholeCorners sidesOf uRungs vRungs domainOf
+unfolding wholeCorners sidesOf rungsOf domainOf
 whole-corners-fit Plane o = none
 whole-corners-fit (Cylinder R) o = none
 whole-corners-fit (Cone R a) o = none

@@ -36,7 +36,7 @@ use Rattle.rings.specs.Choices.{leastU, greatestU, stripShift, straddles, neare
 use Rattle.rings.specs.Starts.{serves, firstServing, start as startOf, alignCuts, slideToCut}
 use Rattle.tables.specs.Moves.{unlessZero}
 use Rattle.rings.specs.Turns.{turnedUnless, turnedOnto, alignAt}
-use Rattle.whole.specs.Boundary.{uSteps, vSteps, uRungs, vRungs, sides, sidesOf, wholeCorners, wrapOf, positionOf}
+use Rattle.whole.specs.Boundary.{stepsOf, rungsOf, sides, sidesOf, wholeCorners, wrapOf, positionOf}
 use Rattle.bands.specs.Band.{firstIsLower, lift, joined, lowerFirst, lowerRing, upperRing, stripOf, outer, holes}
 use Rattle.bands.specs.Given.{only, givenOf}
 use Rattle.bands.specs.Rings.{rising, shifted, laid, onto, onStrip, anyStraddles, acrossSeam, hasStrip, reseam, trial, started}
@@ -208,7 +208,7 @@ pub record Answers : Type 0 where
   pub strip-refused : judge 61614 strip1025 ≡ refused 12 1025
 
 pub answers : Answers
-unfolding Call.judge verdict tooFewLent wrongByte wrongHeader tooManyLoops endsInCounts tooFewPoints tooManyPoints wrongLength badReal firstBadReal firstFrom number numberAt realAt start bytes real row holds headRange radius second uvRange uRange vRange range ofBits ofFields odd toBits le lt eq neg surfaceOf surfaceIn cornersFrom cornersIn loopsIn measuredIn wrapping loopIn openRing oneRing manyRings openSurface longStrip outerNumber outerLoop closedLoops pathIn resultLoops resultIn encode resultOf together uv xyz uvAt xyzAt rowAt sum counts parameters positions pieces only uPeriod vPeriod outerOf slackOf encloses every passing enclosesOther enclosesOthers enclosingOne lastLargest holesOf rephasedHole rephased moved shiftOf areaOf crossSum crossAt leastOf greatestOf middleOf absOf add sub mul div ofInt netWrap turnsCounted toSigned roundAway endsMeet same stripPoints settingIn givenIn optionsIn senseIn givenOf stripOf strip heights ladder lowerRing upperRing lowerFirst firstIsLower lift joined laid rising shifted leastU greatestU reseam hasStrip acrossSeam onStrip anyStraddles started startOf firstServing startFrom serves serve beginsBackward standsAtTheCut trial turnedUnless alignCuts alignAt turnedOnto nearest firstLeast slideToCut unlessZero turned begun ringClosed meanOf sumOf onto stripShift straddles floorOf ne inner rungs endedOn keptDivisions keptAfter near rungSlack divisionsFrom division vStepsOf outer holes dropMerging dropSuccessive dropTrailing keptFrom cutBack loopsFrom wrappedLoops segmentsOf angleStepOf sagAngle ceilOf toUnsigned wholeLoop wholeCorners sidesOf sides uRungs vRungs uSteps vSteps directionStepsOf domainOf sincosOf
+unfolding Call.judge verdict tooFewLent wrongByte wrongHeader tooManyLoops endsInCounts tooFewPoints tooManyPoints wrongLength badReal firstBadReal firstFrom number numberAt realAt start bytes real row holds headRange radius second uvRange uRange vRange range ofBits ofFields odd toBits le lt eq neg surfaceOf surfaceIn cornersFrom cornersIn loopsIn measuredIn wrapping loopIn openRing oneRing manyRings openSurface longStrip outerNumber outerLoop closedLoops pathIn resultLoops resultIn encode resultOf together uv xyz uvAt xyzAt rowAt sum counts parameters positions pieces only uPeriod vPeriod outerOf slackOf encloses every passing enclosesOther enclosesOthers enclosingOne lastLargest holesOf rephasedHole rephased moved shiftOf areaOf crossSum crossAt leastOf greatestOf middleOf absOf add sub mul div ofInt netWrap turnsCounted toSigned roundAway endsMeet same stripPoints settingIn givenIn optionsIn senseIn givenOf stripOf strip heights ladder lowerRing upperRing lowerFirst firstIsLower lift joined laid rising shifted leastU greatestU reseam hasStrip acrossSeam onStrip anyStraddles started startOf firstServing startFrom serves serve beginsBackward standsAtTheCut trial turnedUnless alignCuts alignAt turnedOnto nearest firstLeast slideToCut unlessZero turned begun ringClosed meanOf sumOf onto stripShift straddles floorOf ne inner rungs endedOn keptDivisions keptAfter near rungSlack divisionsFrom division vStepsOf outer holes dropMerging dropSuccessive dropTrailing keptFrom cutBack loopsFrom wrappedLoops segmentsOf angleStepOf sagAngle ceilOf toUnsigned wholeLoop wholeCorners sidesOf sides rungsOf stepsOf directionStepsOf domainOf sincosOf
 answers = record {
   triangle-closed = refl;
   wide-closed = refl;
@@ -243,5 +243,5 @@ band-steps = refl
 
 -- the sphere's first corner is the pole below, to which the axis of the record points away
 pub sphere-pole : same (getD (resultIn bareSphere .positions) 0 origin) (record { x = 0·0; y = 0·0; z = -1·0 }) ≡ true
-unfolding resultIn resultOf resultLoops together wholeLoop wholeCorners sidesOf sides uRungs vRungs uSteps vSteps directionStepsOf segmentsOf angleStepOf sagAngle rungs endedOn keptDivisions keptAfter near rungSlack divisionsFrom division domainOf uPeriod vPeriod positionOf wrapOf pointOf sphereOf raisedOf polarOf frameIn frameOf surfaceIn surfaceOf optionsIn normalizedOr directionOf lengthOf sqrtOf perpendicularOf leastAxis sincosOf realAt number numberAt bytes real row same absOf ceilOf toUnsigned add sub mul div neg lt le eq ofBits ofFields odd toBits ofInt ne
+unfolding resultIn resultOf resultLoops together wholeLoop wholeCorners sidesOf sides rungsOf stepsOf directionStepsOf segmentsOf angleStepOf sagAngle rungs endedOn keptDivisions keptAfter near rungSlack divisionsFrom division domainOf uPeriod vPeriod positionOf wrapOf pointOf sphereOf raisedOf polarOf frameIn frameOf surfaceIn surfaceOf optionsIn normalizedOr directionOf lengthOf sqrtOf perpendicularOf leastAxis sincosOf realAt number numberAt bytes real row same absOf ceilOf toUnsigned add sub mul div neg lt le eq ofBits ofFields odd toBits ofInt ne
 sphere-pole = refl

@@ -22,7 +22,7 @@ use Rattle.surfaces.specs.declared.surface.Surface.the-variants.{Plane, Cylinde
 use Rattle.surfaces.specs.Domains.{fullTurn, domainOf}
 use Rattle.surfaces.specs.Rungs.{rungs}
 use Rattle.surfaces.proofs.surface.Points.{Sizes, point-in}
-use Rattle.whole.specs.Boundary.{clamped, uSteps, vSteps, uRungs, vRungs, sides, sidesOf, wholeCorners, wrapOf, positionOf, usOf, vsOf, wholeArea}
+use Rattle.whole.specs.Boundary.{clamped, stepsOf, rungsOf, sides, sidesOf, wholeCorners, wrapOf, positionOf, usOf, vsOf, wholeArea}
 use Rattle.whole.proofs.boundary.Meaning.{few-corners}
 use Rattle.tables.specs.Corners.{Corner}
 use Rattle.records.specs.Result.{All, none}
@@ -70,7 +70,7 @@ few-steps : (n : ℕ) → clamped n ≤ 256
 few-steps n = omega arith
 
 corners-within : (s : Surface) (o : Resolved) → All (EachUv (Within 21)) (wholeCorners s o)
-unfolding wholeCorners sidesOf uRungs vRungs uSteps vSteps domainOf
+unfolding wholeCorners sidesOf rungsOf stepsOf domainOf
 corners-within Plane o = none
 corners-within (Cylinder R) o = none
 corners-within (Cone R a) o = none

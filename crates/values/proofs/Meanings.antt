@@ -5,7 +5,7 @@ use Rattle.numbers.proofs.trig.Exact.{exact-multiples}
 use Rattle.numbers.proofs.Units.{units-exact, units-order, units-sum}
 use Rattle.numbers.proofs.Errors.{round-error, add-error}
 use Rattle.surfaces.proofs.knots.Rising.{stretch-of, sort-changes-nothing}
-use Rattle.whole.proofs.boundary.Rising.{u-rise, v-rise}
+use Rattle.whole.proofs.boundary.Rising.{whole-rise}
 use Rattle.bands.proofs.Clear.{clear-rings}
 use Rattle.bands.proofs.Walls.{band-kept}
 use Rattle.values.specs.Meanings.{Meanings}
@@ -23,7 +23,7 @@ meanings = record {
   rounding-error = round-error;
   sum-error = add-error;
   merge-even = λ lo hi n v w h few. sort-changes-nothing lo hi n (stretch-of lo hi v w h) few;
-  whole-rungs = λ s o h. (u-rise s o h, v-rise s o h);
+  whole-rungs = whole-rise;
   bands = band-kept;
   clear-bands = clear-rings;
 }

@@ -14,8 +14,9 @@ use Rattle.numbers.specs.declared.math.Vec3.{Vec3}
 use Rattle.surfaces.specs.Rungs.{divisions, slackOf, kept, keptDivisions}
 use Rattle.surfaces.specs.Sorting.{sorted, rising}
 use Rattle.surfaces.specs.declared.options.Resolved.{Resolved}
+use Rattle.surfaces.specs.declared.steps.Axis.{Axis}
 use Rattle.surfaces.specs.declared.surface.Surface.{Surface}
-use Rattle.whole.specs.Boundary.{isWhole, uRungs, vRungs}
+use Rattle.whole.specs.Boundary.{isWhole, rungsOf}
 use Rattle.bands.specs.Band.{outer}
 use Rattle.bands.specs.Columns.{settingOf, settingWith}
 use Rattle.bands.specs.Given.{Given}
@@ -40,7 +41,7 @@ pub record Meanings : Type 0 where
   pub merge-even : (lo hi : Float) (n : ℕ) → Within (2 ^ 1000) lo → Within (2 ^ 1000) hi → T (le lo hi) → n ≤ 2 ^ 53
       → kept (slackOf lo hi) (sorted (divisions lo hi n)) ≡ keptDivisions lo hi n
   -- With its end set (02, N2) too, on a whole surface, no rung of either direction is below the one before it.
-  pub whole-rungs : (surface : Surface) (options : Resolved) → isWhole surface ≡ true → T (rising (uRungs surface options)) × T (rising (vRungs surface options))
+  pub whole-rungs : (surface : Surface) (options : Resolved) → isWhole surface ≡ true → (axis : Axis) → T (rising (rungsOf axis surface options))
   -- 02, N2, moves no band: with the divisions kept for its rungs, as before, each has the same outer loop. The holes take no rung.
   pub bands : (frame : Frame) (surface : Surface) (options : Resolved) (period : Float) (sense : Bool) (given : Given Vec3)
       → outer (settingOf frame surface options period sense) given ≡ outer (settingWith keptDivisions frame surface options period sense) given

@@ -19,7 +19,7 @@ use Rattle.surfaces.specs.Rungs.{division, divisionsFrom, slackOf, near, keptAf
 use Rattle.surfaces.specs.Segments.{sagAngle, angleStepOf, segmentsOf}
 use Rattle.surfaces.specs.Steps.{directionStepsOf}
 use Rattle.loops.specs.Steps.{net, netOf, count as counted, stepsRound, stepsAlong}
-use Rattle.whole.specs.Boundary.{corner, sides, sidesOf, uSteps, vSteps, uRungs, vRungs, wholeCorners, wrapOf, positionOf, wholePositions}
+use Rattle.whole.specs.Boundary.{corner, sides, sidesOf, stepsOf, rungsOf, wholeCorners, wrapOf, positionOf, wholePositions}
 use Rattle.whole.specs.Values.{torus, finer, ball, finest}
 
 abbrev upright : Frame
@@ -41,11 +41,11 @@ farCorner = onTorus TAU TAU
 
 -- Up the second side one step leads to the far corner, and down the fourth one comes back.
 torus-there : counted same below farCorner (stepsRound (wholePositions torus upright finer)) ≡ 1
-unfolding counted stepsRound stepsAlong same positionOf wrapOf wholePositions pointOf torusOf raisedOf polarOf sincosOf uPeriod vPeriod wholeCorners sidesOf sides uRungs vRungs uSteps vSteps directionStepsOf segmentsOf angleStepOf sagAngle rungs endedOn keptDivisions keptAfter near slackOf divisionsFrom division domainOf absOf ceilOf add sub mul div neg lt le eq ne ofBits ofInt toUnsigned
+unfolding counted stepsRound stepsAlong same positionOf wrapOf wholePositions pointOf torusOf raisedOf polarOf sincosOf uPeriod vPeriod wholeCorners sidesOf sides rungsOf stepsOf directionStepsOf segmentsOf angleStepOf sagAngle rungs endedOn keptDivisions keptAfter near slackOf divisionsFrom division domainOf absOf ceilOf add sub mul div neg lt le eq ne ofBits ofInt toUnsigned
 torus-there = refl
 
 torus-back : counted same farCorner below (stepsRound (wholePositions torus upright finer)) ≡ 1
-unfolding counted stepsRound stepsAlong same positionOf wrapOf wholePositions pointOf torusOf raisedOf polarOf sincosOf uPeriod vPeriod wholeCorners sidesOf sides uRungs vRungs uSteps vSteps directionStepsOf segmentsOf angleStepOf sagAngle rungs endedOn keptDivisions keptAfter near slackOf divisionsFrom division domainOf absOf ceilOf add sub mul div neg lt le eq ne ofBits ofInt toUnsigned
+unfolding counted stepsRound stepsAlong same positionOf wrapOf wholePositions pointOf torusOf raisedOf polarOf sincosOf uPeriod vPeriod wholeCorners sidesOf sides rungsOf stepsOf directionStepsOf segmentsOf angleStepOf sagAngle rungs endedOn keptDivisions keptAfter near slackOf divisionsFrom division domainOf absOf ceilOf add sub mul div neg lt le eq ne ofBits ofInt toUnsigned
 torus-back = refl
 
 -- With the divisions kept for rungs, as before N2, that step ends beside the corner, at the top division, and none comes back.
@@ -69,11 +69,11 @@ pole = onBall TAU H
 
 -- up to the pole, round it in one place, and down again
 ball-there : counted same under pole (stepsRound (wholePositions ball upright finest)) ≡ 1
-unfolding counted stepsRound stepsAlong same positionOf wrapOf wholePositions pointOf sphereOf raisedOf polarOf sincosOf uPeriod vPeriod wholeCorners sidesOf sides uRungs vRungs uSteps vSteps directionStepsOf segmentsOf angleStepOf sagAngle rungs endedOn keptDivisions keptAfter near slackOf divisionsFrom division domainOf absOf ceilOf add sub mul div neg lt le eq ne ofBits ofInt toUnsigned
+unfolding counted stepsRound stepsAlong same positionOf wrapOf wholePositions pointOf sphereOf raisedOf polarOf sincosOf uPeriod vPeriod wholeCorners sidesOf sides rungsOf stepsOf directionStepsOf segmentsOf angleStepOf sagAngle rungs endedOn keptDivisions keptAfter near slackOf divisionsFrom division domainOf absOf ceilOf add sub mul div neg lt le eq ne ofBits ofInt toUnsigned
 ball-there = refl
 
 ball-back : counted same pole under (stepsRound (wholePositions ball upright finest)) ≡ 1
-unfolding counted stepsRound stepsAlong same positionOf wrapOf wholePositions pointOf sphereOf raisedOf polarOf sincosOf uPeriod vPeriod wholeCorners sidesOf sides uRungs vRungs uSteps vSteps directionStepsOf segmentsOf angleStepOf sagAngle rungs endedOn keptDivisions keptAfter near slackOf divisionsFrom division domainOf absOf ceilOf add sub mul div neg lt le eq ne ofBits ofInt toUnsigned
+unfolding counted stepsRound stepsAlong same positionOf wrapOf wholePositions pointOf sphereOf raisedOf polarOf sincosOf uPeriod vPeriod wholeCorners sidesOf sides rungsOf stepsOf directionStepsOf segmentsOf angleStepOf sagAngle rungs endedOn keptDivisions keptAfter near slackOf divisionsFrom division domainOf absOf ceilOf add sub mul div neg lt le eq ne ofBits ofInt toUnsigned
 ball-back = refl
 
 -- before N2 the way down began beside the pole, so that none came back

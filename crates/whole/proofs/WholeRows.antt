@@ -1,162 +1,203 @@
--- The boundary of a whole surface in a table, corner by corner.
-use Prim.Native.Nat.{ℕ, zero, suc, _+_, _-_, _*_, _≤_, _<_, min}
+-- The boundary of a whole surface in a table, side after side.
+use Prim.Native.Nat.{ℕ, _+_, _-_, _≤_, _<_}
 use mathlib.Core.Path.{_≡_, refl, sym, ap, _∙_, subst}
-use mathlib.Core.Bool.{Bool, true, false}
-use mathlib.Core.List.{List, [], _∷_, _++_, map}
-use native.Mathlib.Nat.{le-of-suc-le-suc, not-suc-le-zero}
+use mathlib.Core.Bool.{Bool, true, false, cond}
+use mathlib.Core.List.{List, [], _∷_, _++_, map, append-assoc, map-append, map-map}
 use native.Mathlib.Omega.{arith}
+use borrow.Author.Tests.{lt-leb}
 use lib.Ieee.{Float, nan, mul, ofBits}
-use lib.ListN.{length, getD, set, take, drop, length-map}
-use lib.Seq.{sets, take-append-seam}
+use lib.ListN.{length, getD, set, take, drop, length-append, length-drop, length-map}
+use lib.Seq.{sets, sets-eq, take-all, take-append-seam, getD-drop, getD-take}
 use Rattle.numbers.specs.Constants.{plusZero}
 use Rattle.numbers.specs.declared.math.Frame.{Frame}
+use Rattle.numbers.specs.declared.math.Interval.{Interval}
 use Rattle.numbers.specs.declared.math.Vec2.{Vec2}
 use Rattle.numbers.specs.declared.math.Vec3.{Vec3}
 use Rattle.lists.specs.Placed.{placed}
-use Rattle.lists.proofs.Filling.{Filling, front, front-turn, filling-end}
-use Rattle.lists.proofs.Placed.{placed-short, placed-none, front-placed}
+use Rattle.lists.proofs.Elements.{getD-map, getD-reverse, dropLast-take}
+use Rattle.lists.proofs.Placed.{placed-fits, placed-short, placed-none, front-placed}
+use Rattle.lists.proofs.Storing.{sets-append, stored-more}
 use Rattle.surfaces.specs.declared.options.Resolved.{Resolved}
+use Rattle.surfaces.specs.declared.steps.Axis.{Axis}
+use Rattle.surfaces.specs.declared.steps.Axis.the-variants.{U, «V»}
 use Rattle.surfaces.specs.declared.surface.Surface.{Surface}
 use Rattle.surfaces.specs.Domains.{domainOf}
 use Rattle.loops.specs.Area.{areaOf, crossSum}
 use Rattle.loops.specs.Part.{partOf}
 use Rattle.tables.specs.Corners.{Corner, Corners, us, vs}
 use Rattle.tables.specs.Rows.{rows, none}
-use Rattle.whole.specs.Boundary.{isWhole, corner, sidesOf, usOf, vsOf, uRungs, vRungs, wholeCorners, positionOf, wholeArea, FourCorners}
-use Rattle.whole.specs.Table.{placedCorner, cornersAlong, wholeRows, RowsReach}
+use Rattle.whole.specs.Boundary.{isWhole, corner, cornerAlong, walked, side, sides, sidesOf, usOf, vsOf, rungsOf, wholeCorners, wholeArea, areaWithin, FourCorners}
+use Rattle.whole.specs.Table.{placedCorner, wholeRows, RowsReach}
 use Rattle.whole.proofs.boundary.Corners.{four-corners}
-use Rattle.whole.proofs.boundary.Sides.{front as front-sets, length-sides, u-few, v-few}
+use Rattle.whole.proofs.boundary.Meaning.{area-fits}
+use Rattle.whole.proofs.boundary.Sides.{few, some, length-walked, corners-whole}
 
-module _ (s : Surface) (f : Frame) where
-  length-along : (us vs : List Float) → length (cornersAlong s f us vs) ≡ min (length us) (length vs)
-  unfolding cornersAlong
-  length-along [] vs = omega arith
-  length-along (u ∷ us) [] = omega arith
-  length-along (u ∷ us) (v ∷ vs) = let h = length-along us vs in omega arith
+-- ---- one side
 
-  getD-along : (us vs : List Float) (i : ℕ) → i < length us → i < length vs
-      → getD (cornersAlong s f us vs) i none ≡ placedCorner s f (corner (getD us i nan) (getD vs i nan))
-  unfolding cornersAlong
-  getD-along [] vs i h k = absurd (not-suc-le-zero h)
-  getD-along (u ∷ us) [] i h k = absurd (not-suc-le-zero k)
-  getD-along (u ∷ us) (v ∷ vs) zero h k = refl
-  getD-along (u ∷ us) (v ∷ vs) (suc i) h k = getD-along us vs i (le-of-suc-le-suc h) (le-of-suc-le-suc k)
+pub walked-back : (rs : List Float) (i : ℕ) → i + 1 < length rs → getD rs (length rs - 1 - i) nan ≡ getD (walked true rs) i nan
+walked-back rs i h =
+    let m = length-drop 1 rs in
+    let at : length rs - 1 - i ≡ 1 + (length rs - 2 - i) = omega arith in
+    ap (λ (k : ℕ). getD rs k nan) at ∙ sym (getD-drop 1 rs (length rs - 2 - i) nan) ∙ sym (getD-reverse (drop 1 rs) i (length rs - 2 - i) nan (omega arith))
 
-  along-corners : (cs : List Vec2) → cornersAlong s f (usOf cs) (vsOf cs) ≡ map (placedCorner s f) cs
-  unfolding cornersAlong
-  along-corners [] = refl
-  along-corners (c ∷ cs) = ap (λ (l : Corners Vec3). placedCorner s f c ∷ l) (along-corners cs)
+pub walked-on : (rs : List Float) (i : ℕ) → i + 1 < length rs → getD rs i nan ≡ getD (walked false rs) i nan
+walked-on rs i h = sym (ap (λ (l : List Float). getD l i nan) (dropLast-take rs) ∙ getD-take (length rs - 1) rs i nan (omega arith))
 
-  us-rows : (cs : List Vec2) → us (map (placedCorner s f) cs) ≡ usOf cs
-  us-rows [] = refl
-  us-rows (c ∷ cs) = ap (λ (l : List Float). c .u ∷ l) (us-rows cs)
+module _ (s : Surface) (f : Frame) (a : Axis) (fixed : Float) (back : Bool) (rs t₀ : List Float) (start : ℕ) where
+  abbrev along : Corners Vec3
+  along = map (placedCorner s f) (side a fixed back rs)
 
-  vs-rows : (cs : List Vec2) → vs (map (placedCorner s f) cs) ≡ vsOf cs
-  vs-rows [] = refl
-  vs-rows (c ∷ cs) = ap (λ (l : List Float). c .v ∷ l) (vs-rows cs)
+  length-along : length along ≡ length rs - 1
+  length-along = length-map (side a fixed back rs) (placedCorner s f) ∙ length-map (walked back rs) (cornerAlong a fixed) ∙ length-walked back rs
 
-  -- ---- put corner by corner
+  along-at : (i : ℕ) → i + 1 < length rs → getD along i none ≡ placedCorner s f (cornerAlong a fixed (getD (walked back rs) i nan))
+  along-at i h =
+      let m = length-map (walked back rs) (cornerAlong a fixed) in
+      let n = length-walked back rs in
+      getD-map (placedCorner s f) (side a fixed back rs) i none (corner nan nan) (omega arith)
+      ∙ ap (placedCorner s f) (getD-map (cornerAlong a fixed) (walked back rs) i (corner nan nan) nan (omega arith))
 
-  module _ (us vs t₀ : List Float) (n : ℕ) where
-    abbrev along : Corners Vec3
-    along = cornersAlong s f us vs
+  -- t holds the first i corners
+  pub record Putting (t : List Float) (i : ℕ) : Type 0 where
+    pub far : i ≤ length rs - 1
+    pub long : length t ≡ length t₀
+    pub is : rows t ≡ sets (rows t₀) start (take i along)
 
-    pub record Putting (t : List Float) (i : ℕ) : Type 0 where
-      pub least : n ≡ min (length us) (length vs)
-      pub all : length along ≡ n
-      pub long : length t ≡ length t₀
-      pub fill : Filling 0 along (rows t₀) (rows t) i
+  pub putting : Putting t₀ 0
+  putting = record { far = omega arith; long = refl; is = refl }
 
-    pub putting : (m : ℕ) → n ≡ min (length us) (length vs) → m ≡ length (rows t₀) → n ≤ m → Putting t₀ 0
-    putting m l e h = let a = length-along us vs in record { least = l; all = omega arith; long = refl; fill = front along (rows t₀) (omega arith) }
+  pub putting-turn : (t t′ : List Float) (i : ℕ) (c : Corner Vec3) (x : Float) → Putting t i → i + 1 < length rs → x ≡ getD (walked back rs) i nan
+      → c ≡ placedCorner s f (cornerAlong a fixed x) → length t′ ≡ length t → rows t′ ≡ set (rows t) (start + i) c → Putting t′ (i + 1)
+  putting-turn t t′ i c x k h x-is c-is l e = record {
+    far = omega arith;
+    long = l ∙ k .long;
+    is = e ∙ (λ j. set (k .is j) (start + i) ((c-is ∙ ap (λ (y : Float). placedCorner s f (cornerAlong a fixed y)) x-is ∙ sym (along-at i h)) j))
+        ∙ stored-more none along (rows t₀) start i (let n = length-along in omega arith);
+  }
 
-    pub putting-turn : (t t′ : List Float) (i : ℕ) (c : Corner Vec3) (p : Vec3) → Putting t i → i < n → p ≡ positionOf s f (corner (getD us i nan) (getD vs i nan))
-        → c ≡ record { u = getD us i nan; v = getD vs i nan; at = p } → length t′ ≡ length t → rows t′ ≡ set (rows t) i c → Putting t′ (i + 1)
-    putting-turn t t′ i c p k h at c-is l e = record {
-      least = k .least;
-      all = k .all;
-      long = l ∙ k .long;
-      fill = rw e (front-turn along (rows t₀) (rows t) i c none (k .fill) (let a = k .all in omega arith)
-          (c-is ∙ ap (λ (q : Vec3). record { u = getD us i nan; v = getD vs i nan; at = q }) at ∙ sym (getD-along us vs i (let b = k .least in omega arith) (let b = k .least in omega arith))));
-    }
+  pub putting-end : (t : List Float) (i : ℕ) → Putting t i → length rs ≤ i + 1 → rows t ≡ sets (rows t₀) start along
+  putting-end t i k h = k .is ∙ ap (sets (rows t₀) start) (take-all i along (let n = length-along in omega arith))
 
-    pub putting-end : (t : List Float) (i : ℕ) → Putting t i → n ≤ i → rows t ≡ placed 0 along (rows t₀)
-    putting-end t i k h = filling-end 0 along (rows t₀) (rows t) i (k .fill) (let a = k .all in omega arith)
+-- ---- the four sides, one behind the other
 
-    pub putting-none : (m : ℕ) → n ≡ min (length us) (length vs) → m ≡ length (rows t₀) → m < n → rows t₀ ≡ placed 0 along (rows t₀)
-    putting-none m l e h = let a = length-along us vs in sym (placed-short 0 along (rows t₀) (omega arith))
+four-stretches : {A : Type 0} (d a b c e : List A) (i j k : ℕ) → i ≡ length a → j ≡ length a + length b → k ≡ length a + length b + length c
+    → sets (sets (sets (sets d 0 a) i b) j c) k e ≡ sets d 0 (a ++ (b ++ (c ++ e)))
+four-stretches d a b c e i j k p q r =
+    let l = length-append a b in
+    let m = length-append (a ++ b) c in
+    rw (
+      sets-append d 0 i a b (omega arith),
+      sets-append d 0 j (a ++ b) c (omega arith),
+      sets-append d 0 k ((a ++ b) ++ c) e (omega arith),
+      append-assoc (a ++ b) c e,
+      append-assoc a b (c ++ e),
+    )
+
+module _ (s : Surface) (f : Frame) (us vs : List Float) (t₀ t₁ t₂ t₃ t₄ : Corners Vec3) (su sv : ℕ) where
+  abbrev put : Axis → Float → Bool → List Float → Corners Vec3
+  put a fixed back rs = map (placedCorner s f) (side a fixed back rs)
+
+  length-put : (a : Axis) (fixed : Float) (back : Bool) (rs : List Float) → length (put a fixed back rs) ≡ length rs - 1
+  length-put a fixed back rs = length-along s f a fixed back rs [] 0
+
+  pub sides-put : (ui vi : Interval) → ui ≡ domainOf s .u → vi ≡ domainOf s .v → su ≡ length us - 1 → sv ≡ length vs - 1
+      → t₁ ≡ sets t₀ 0 (put U (vi .lo) false us) → t₂ ≡ sets t₁ su (put «V» (ui .hi) false vs) → t₃ ≡ sets t₂ (su + sv) (put U (vi .hi) true us)
+      → t₄ ≡ sets t₃ (su + sv + su) (put «V» (ui .lo) true vs) → t₄ ≡ sets t₀ 0 (map (placedCorner s f) (sides us vs (domainOf s .u) (domainOf s .v)))
+  unfolding sides
+  sides-put ui vi ui-is vi-is p q e₁ e₂ e₃ e₄ =
+      let l₁ = length-put U (vi .lo) false us in
+      let l₂ = length-put «V» (ui .hi) false vs in
+      let l₃ = length-put U (vi .hi) true us in
+      rw (e₄, e₃, e₂, e₁) (four-stretches t₀ (put U (vi .lo) false us) (put «V» (ui .hi) false vs) (put U (vi .hi) true us) (put «V» (ui .lo) true vs)
+      su (su + sv) (su + sv + su) (omega arith) (omega arith) (omega arith)
+      ∙ simp (ui-is, vi-is, map-append))
+
+-- ---- the rungs in their arrays
+
+rungs-read : (n : ℕ) (r z x p : List Float) → n ≡ length r - 1 → 0 < length r → length r ≤ length z
+    → x ≡ sets z 0 r → p ≡ partOf 0 (n + 1) x → p ≡ r
+unfolding partOf
+rungs-read n r z x p e h few x-is p-is =
+    let all : n + 1 ≡ length r = omega arith in
+    p-is ∙ (λ i. take (all i) ((x-is ∙ sets-eq r z 0 (omega arith)) i)) ∙ take-append-seam r (drop (0 + length r) z)
+
+module _ (s : Surface) (o : Resolved) (su sv : ℕ) (su-is : su ≡ length (rungsOf U s o) - 1) (sv-is : sv ≡ length (rungsOf «V» s o) - 1) where
+  module _ (zu zv xu xv pu pv : List Float) (lu : length zu ≡ 257) (lv : length zv ≡ 257)
+      (xu-is : xu ≡ sets zu 0 (rungsOf U s o)) (xv-is : xv ≡ sets zv 0 (rungsOf «V» s o))
+      (pu-is : pu ≡ partOf 0 (su + 1) xu) (pv-is : pv ≡ partOf 0 (sv + 1) xv) where
+    u-read : pu ≡ rungsOf U s o
+    u-read = rungs-read su (rungsOf U s o) zu xu pu su-is (some U s o) (let n = few U s o in omega arith) xu-is pu-is
+
+    v-read : pv ≡ rungsOf «V» s o
+    v-read = rungs-read sv (rungsOf «V» s o) zv xv pv sv-is (some «V» s o) (let n = few «V» s o in omega arith) xv-is pv-is
+
+    pub sides-ready : ((0 < length pu) × (length pu ≤ 257)) × ((0 < length pv) × (length pv ≤ 257))
+    sides-ready = rw (u-read, v-read) ((some U s o, few U s o), (some «V» s o, few «V» s o))
+
+    pub boundary-put : (f : Frame) (t₀ t : Corners Vec3) → t ≡ sets t₀ 0 (map (placedCorner s f) (sides pu pv (domainOf s .u) (domainOf s .v)))
+        → t ≡ sets t₀ 0 (map (placedCorner s f) (sidesOf s o))
+    unfolding sidesOf
+    boundary-put f t₀ t e = e ∙ (λ i. sets t₀ 0 (map (placedCorner s f) (sides (u-read i) (v-read i) (domainOf s .u) (domainOf s .v))))
 
 -- ---- the whole boundary
 
-module _ (s : Surface) (f : Frame) (o : Resolved) (t : List Float) where
-  -- the answer and the rows
-  abbrev Left : Float → Corners Vec3 → Type 0
-  Left x r = (x ≡ wholeArea s o) × (r ≡ placed 0 (wholeRows s f o) (rows t))
+module _ (s : Surface) (f : Frame) (o : Resolved) (t : Corners Vec3) where
+  us-rows : (cs : List Vec2) → us (map (placedCorner s f) cs) ≡ usOf cs
+  us-rows cs = map-map (λ (c : Corner Vec3). c .u) (placedCorner s f) cs
 
-  reaches : (r : Corners Vec3) → r ≡ placed 0 (wholeRows s f o) (rows t) → RowsReach s o (length (rows t)) r
+  vs-rows : (cs : List Vec2) → vs (map (placedCorner s f) cs) ≡ vsOf cs
+  vs-rows cs = map-map (λ (c : Corner Vec3). c .v) (placedCorner s f) cs
+
+  length-whole : length (wholeRows s f o) ≡ length (wholeCorners s o)
+  unfolding wholeRows
+  length-whole = length-map (wholeCorners s o) (placedCorner s f)
+
+  front : (r : Corners Vec3) → r ≡ placed 0 (wholeRows s f o) t → length (wholeCorners s o) ≤ length t
+      → take (length (wholeCorners s o)) r ≡ wholeRows s f o
+  front r e room = (λ i. take (sym length-whole i) (e i)) ∙ front-placed (wholeRows s f o) t (let n = length-whole in omega arith)
+
+  reaches : (r : Corners Vec3) → r ≡ placed 0 (wholeRows s f o) t → RowsReach s o (length t) r
   unfolding wholeRows
   reaches r e whole room =
       let cs = wholeCorners s o in
-      let m : length cs ≡ length (map (placedCorner s f) cs) = sym (length-map cs (placedCorner s f)) in
-      let at : take (length cs) r ≡ map (placedCorner s f) cs = (λ i. take (m i) (e i)) ∙ front-placed (map (placedCorner s f) cs) (rows t) (omega arith) in
-      subst (λ (l : List Float). FourCorners (domainOf s) l (vs (take (length cs) r))) (sym (ap us at ∙ us-rows s f cs))
-      (subst (FourCorners (domainOf s) (usOf cs)) (sym (ap vs at ∙ vs-rows s f cs)) (four-corners s o whole))
+      let at = front r e room in
+      subst (λ (l : List Float). FourCorners (domainOf s) l (vs (take (length cs) r))) (sym (ap us at ∙ us-rows cs))
+      (subst (FourCorners (domainOf s) (usOf cs)) (sym (ap vs at ∙ vs-rows cs)) (four-corners s o whole))
 
   abbrev pub Answered : Float → Corners Vec3 → Type 0
-  Answered x r = (x ≡ wholeArea s o) × ((r ≡ placed 0 (wholeRows s f o) (rows t)) × RowsReach s o (length (rows t)) r)
+  Answered x r = (x ≡ areaWithin (length t) s o) × ((r ≡ placed 0 (wholeRows s f o) t) × RowsReach s o (length t) r)
 
-  answered : (x : Float) (r : Corners Vec3) → x ≡ wholeArea s o → r ≡ placed 0 (wholeRows s f o) (rows t) → Answered x r
+  answered : (x : Float) (r : Corners Vec3) → x ≡ areaWithin (length t) s o → r ≡ placed 0 (wholeRows s f o) t → Answered x r
   answered x r a e = (a, (e, reaches r e))
 
-  empty-of : {A : Type 0} (l : List A) → length l ≡ 0 → l ≡ []
-  empty-of [] h = refl
-  empty-of (x ∷ l) h = absurd (omega arith)
-
+  -- no corners, so no area
   no-area : plusZero ≡ areaOf [] []
   unfolding areaOf crossSum mul ofBits
   no-area = refl
 
-  pub no-corners : (n : ℕ) → n ≡ length (wholeCorners s o) → n ≡ 0 → Answered plusZero (rows t)
+  pub no-whole : (b : Bool) → b ≡ isWhole s → b ≡ false → Answered plusZero t
+  unfolding wholeCorners wholeArea wholeRows
+  no-whole b e h =
+      let cs-none : wholeCorners s o ≡ [] = rw (← e, h) in
+      answered plusZero t (no-area ∙ sym (area-fits s o (length t) (rw cs-none (omega arith)) ∙ ap (λ (cs : List Vec2). areaOf (usOf cs) (vsOf cs)) cs-none))
+      (sym (placed-none 0 t) ∙ ap (λ (cs : List Vec2). placed 0 (map (placedCorner s f) cs) t) (sym cs-none))
+
+  pub no-room : (m n : ℕ) → m ≡ length t → n ≡ length (wholeCorners s o) → m < n → Answered plusZero t
+  no-room m n e k h =
+      let l = length-whole in
+      answered plusZero t (ap (λ (b : Bool). cond b (wholeArea s o) plusZero) (sym (lt-leb (length (wholeCorners s o)) (length t) (omega arith))))
+      (sym (placed-short 0 (wholeRows s f o) t (omega arith)))
+
+  pub boundary-left : (m n : ℕ) (r p : Corners Vec3) (x : Float) → m ≡ length t → n ≡ length (wholeCorners s o) → n ≤ m → isWhole s ≡ true
+      → r ≡ sets t 0 (map (placedCorner s f) (sidesOf s o)) → p ≡ take n (drop 0 r) → x ≡ areaOf (us p) (vs p) → Answered x r
   unfolding wholeArea wholeRows
-  no-corners n e z =
-      let cs-none : wholeCorners s o ≡ [] = empty-of (wholeCorners s o) (sym e ∙ z) in
-      answered plusZero (rows t) (no-area ∙ ap (λ (cs : List Vec2). areaOf (usOf cs) (vsOf cs)) (sym cs-none))
-      (sym (placed-none 0 (rows t)) ∙ ap (λ (cs : List Vec2). placed 0 (map (placedCorner s f) cs) (rows t)) (sym cs-none))
-
-  -- ---- from the two columns
-
-  few : length (sidesOf s o) ≤ 1024
-  unfolding sidesOf
-  few =
-      let a = u-few s o in
-      let b = v-few s o in
-      let l = length-sides (uRungs s o) (vRungs s o) (domainOf s .u) (domainOf s .v) in
-      omega arith
-
-  corners-are : (b : Bool) → isWhole s ≡ b → (length (wholeCorners s o) ≡ 0 → ⊥) → wholeCorners s o ≡ sidesOf s o
-  unfolding wholeCorners
-  corners-are true e h = rw e
-  corners-are false e h = absurd (h (rw e))
-
-  column : (n : ℕ) (w z c p : List Float) → n ≡ length w → length z ≡ 1024 → length w ≤ 1024 → c ≡ sets z 0 w → p ≡ partOf 0 n c → p ≡ w
-  unfolding partOf
-  column n w z c p e room fits c-is p-is =
-      p-is ∙ ap (take n) (c-is ∙ front-sets z w (omega arith)) ∙ ap (λ (k : ℕ). take k (w ++ drop (length w) z)) e ∙ take-append-seam w (drop (length w) z)
-
-  pub boundary-left : (n : ℕ) → n ≡ length (wholeCorners s o) → (n ≡ 0 → ⊥) → (zu zv cu cv pu pv qu qv : List Float) (x : Float) (r : Corners Vec3) → length zu ≡ 1024 → length zv ≡ 1024
-      → cu ≡ sets zu 0 (usOf (sidesOf s o)) → cv ≡ sets zv 0 (vsOf (sidesOf s o)) → pu ≡ partOf 0 n cu → pv ≡ partOf 0 n cv
-      → r ≡ placed 0 (cornersAlong s f pu pv) (rows t) → qu ≡ partOf 0 n cu → qv ≡ partOf 0 n cv → x ≡ areaOf qu qv → Answered x r
-  unfolding wholeArea wholeRows
-  boundary-left n e z zu zv cu cv pu pv qu qv x r lu lv u-is v-is pu-is pv-is r-is qu-is qv-is x-is =
-      let cs = sidesOf s o in
-      let same : wholeCorners s o ≡ cs = corners-are (isWhole s) refl (λ k. z (e ∙ k)) in
-      let m : n ≡ length cs = e ∙ ap length same in
-      let k = few in
-      let nu : length (usOf cs) ≡ length cs = length-map cs (λ (c : Vec2). c .u) in
-      let nv : length (vsOf cs) ≡ length cs = length-map cs (λ (c : Vec2). c .v) in
-      let col-u : (p : List Float) → p ≡ partOf 0 n cu → p ≡ usOf cs = λ (p : List Float) (h : p ≡ partOf 0 n cu). column n (usOf cs) zu cu p (omega arith) lu (omega arith) u-is h in
-      let col-v : (p : List Float) → p ≡ partOf 0 n cv → p ≡ vsOf cs = λ (p : List Float) (h : p ≡ partOf 0 n cv). column n (vsOf cs) zv cv p (omega arith) lv (omega arith) v-is h in
+  boundary-left m n r p x e k h whole r-is p-is x-is =
+      let l = length-whole in
+      let cs = wholeCorners s o in
+      let written : r ≡ placed 0 (wholeRows s f o) t =
+      r-is ∙ ap (λ (c : List Vec2). sets t 0 (map (placedCorner s f) c)) (sym (corners-whole s o whole))
+      ∙ sets-eq (wholeRows s f o) t 0 (omega arith) ∙ sym (placed-fits 0 (wholeRows s f o) t (omega arith)) in
+      let p-whole : p ≡ wholeRows s f o = p-is ∙ ap (λ (j : ℕ). take j r) k ∙ front r written (omega arith) in
       answered x r
-      (x-is ∙ (λ i. areaOf (col-u qu qu-is i) (col-v qv qv-is i)) ∙ ap (λ (l : List Vec2). areaOf (usOf l) (vsOf l)) (sym same))
-      (r-is ∙ (λ i. placed 0 (cornersAlong s f (col-u pu pu-is i) (col-v pv pv-is i)) (rows t)) ∙ ap (λ (l : Corners Vec3). placed 0 l (rows t)) (along-corners s f cs)
-      ∙ ap (λ (l : List Vec2). placed 0 (map (placedCorner s f) l) (rows t)) (sym same))
+      (x-is ∙ (λ i. areaOf ((ap us p-whole ∙ us-rows cs) i) ((ap vs p-whole ∙ vs-rows cs) i)) ∙ sym (area-fits s o (length t) (omega arith)))
+      written

@@ -1,6 +1,5 @@
 pub mod Sides
 pub mod Meaning
-pub mod Columns
 pub mod Rungs
 pub mod Corners
 pub mod Counts

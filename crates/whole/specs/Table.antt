@@ -2,8 +2,7 @@
 use Prim.Native.Nat.{ℕ, _≤_}
 use mathlib.Core.Path.{_≡_}
 use mathlib.Core.Bool.{true}
-use mathlib.Core.List.{List, [], _∷_, map}
-use lib.Ieee.{Float}
+use mathlib.Core.List.{map}
 use lib.ListN.{length, take}
 use Rattle.numbers.specs.declared.math.Frame.{Frame}
 use Rattle.numbers.specs.declared.math.Vec2.{Vec2}
@@ -12,17 +11,11 @@ use Rattle.surfaces.specs.declared.options.Resolved.{Resolved}
 use Rattle.surfaces.specs.declared.surface.Surface.{Surface}
 use Rattle.surfaces.specs.Domains.{domainOf}
 use Rattle.tables.specs.Corners.{Corner, Corners, us, vs}
-use Rattle.whole.specs.Boundary.{isWhole, corner, wholeCorners, positionOf, FourCorners}
+use Rattle.whole.specs.Boundary.{isWhole, wholeCorners, positionOf, FourCorners}
 
 -- a corner with its position
 abbrev pub placedCorner : Surface → Frame → Vec2 → Corner Vec3
 placedCorner s f c = record { u = c .u; v = c .v; at = positionOf s f c }
-
--- the corners that are given by their u and their v
-unfoldable pub cornersAlong : Surface → Frame → List Float → List Float → Corners Vec3
-cornersAlong s f [] vs = []
-cornersAlong s f (u ∷ us) [] = []
-cornersAlong s f (u ∷ us) (v ∷ vs) = placedCorner s f (corner u v) ∷ cornersAlong s f us vs
 
 unfoldable pub wholeRows : Surface → Frame → Resolved → Corners Vec3
 wholeRows s f o = map (placedCorner s f) (wholeCorners s o)

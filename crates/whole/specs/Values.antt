@@ -15,7 +15,7 @@ use Rattle.surfaces.specs.Domains.{domainOf}
 use Rattle.surfaces.specs.Rungs.{division, divisionsFrom, slackOf, near, keptAfter, keptDivisions, endedOn, rungs}
 use Rattle.surfaces.specs.Segments.{sagAngle, angleStepOf, segmentsOf}
 use Rattle.surfaces.specs.Steps.{directionStepsOf}
-use Rattle.whole.specs.Boundary.{corner, sides, sidesOf, uSteps, vSteps, uRungs, vRungs, wholeCorners}
+use Rattle.whole.specs.Boundary.{corner, sides, sidesOf, stepsOf, rungsOf, wholeCorners}
 
 abbrev pub torus : Surface
 torus = Torus (count 2) (count 1)
@@ -25,16 +25,16 @@ options = record { sag = count 10; angle = count 3 ⊘ count 2; «min_edge_segme
 
 -- five steps in each direction
 twenty-corners : length (wholeCorners torus options) ≡ 20
-unfolding wholeCorners sidesOf sides uRungs vRungs uSteps vSteps directionStepsOf segmentsOf angleStepOf sagAngle rungs endedOn keptDivisions keptAfter near slackOf divisionsFrom division domainOf absOf ceilOf add sub mul div neg lt le eq ne ofBits ofInt toUnsigned
+unfolding wholeCorners sidesOf sides rungsOf stepsOf directionStepsOf segmentsOf angleStepOf sagAngle rungs endedOn keptDivisions keptAfter near slackOf divisionsFrom division domainOf absOf ceilOf add sub mul div neg lt le eq ne ofBits ofInt toUnsigned
 twenty-corners = refl
 
 -- the first corner, and that where the second side begins
 first-corner : getD (wholeCorners torus options) 0 (corner nan nan) ≡ corner plusZero plusZero
-unfolding wholeCorners sidesOf sides uRungs vRungs uSteps vSteps directionStepsOf segmentsOf angleStepOf sagAngle rungs endedOn keptDivisions keptAfter near slackOf divisionsFrom division domainOf absOf ceilOf add sub mul div neg lt le eq ne ofBits ofInt toUnsigned
+unfolding wholeCorners sidesOf sides rungsOf stepsOf directionStepsOf segmentsOf angleStepOf sagAngle rungs endedOn keptDivisions keptAfter near slackOf divisionsFrom division domainOf absOf ceilOf add sub mul div neg lt le eq ne ofBits ofInt toUnsigned
 first-corner = refl
 
 second-side : getD (wholeCorners torus options) 5 (corner nan nan) ≡ corner TAU plusZero
-unfolding wholeCorners sidesOf sides uRungs vRungs uSteps vSteps directionStepsOf segmentsOf angleStepOf sagAngle rungs endedOn keptDivisions keptAfter near slackOf divisionsFrom division domainOf absOf ceilOf add sub mul div neg lt le eq ne ofBits ofInt toUnsigned
+unfolding wholeCorners sidesOf sides rungsOf stepsOf directionStepsOf segmentsOf angleStepOf sagAngle rungs endedOn keptDivisions keptAfter near slackOf divisionsFrom division domainOf absOf ceilOf add sub mul div neg lt le eq ne ofBits ofInt toUnsigned
 second-side = refl
 
 -- ---- 02, N2: 11 steps in each direction, of which the top division falls short of TAU
@@ -43,16 +43,16 @@ abbrev pub finer : Resolved
 finer = record { sag = count 10; angle = count 3 ⊘ count 5; «min_edge_segments» = 1 }
 
 forty-four-corners : length (wholeCorners torus finer) ≡ 44
-unfolding wholeCorners sidesOf sides uRungs vRungs uSteps vSteps directionStepsOf segmentsOf angleStepOf sagAngle rungs endedOn keptDivisions keptAfter near slackOf divisionsFrom division domainOf absOf ceilOf add sub mul div neg lt le eq ne ofBits ofInt toUnsigned
+unfolding wholeCorners sidesOf sides rungsOf stepsOf directionStepsOf segmentsOf angleStepOf sagAngle rungs endedOn keptDivisions keptAfter near slackOf divisionsFrom division domainOf absOf ceilOf add sub mul div neg lt le eq ne ofBits ofInt toUnsigned
 forty-four-corners = refl
 
 -- where the third side begins, and the fourth
 far-corner : getD (wholeCorners torus finer) 22 (corner nan nan) ≡ corner TAU TAU
-unfolding wholeCorners sidesOf sides uRungs vRungs uSteps vSteps directionStepsOf segmentsOf angleStepOf sagAngle rungs endedOn keptDivisions keptAfter near slackOf divisionsFrom division domainOf absOf ceilOf add sub mul div neg lt le eq ne ofBits ofInt toUnsigned
+unfolding wholeCorners sidesOf sides rungsOf stepsOf directionStepsOf segmentsOf angleStepOf sagAngle rungs endedOn keptDivisions keptAfter near slackOf divisionsFrom division domainOf absOf ceilOf add sub mul div neg lt le eq ne ofBits ofInt toUnsigned
 far-corner = refl
 
 fourth-side : getD (wholeCorners torus finer) 33 (corner nan nan) ≡ corner plusZero TAU
-unfolding wholeCorners sidesOf sides uRungs vRungs uSteps vSteps directionStepsOf segmentsOf angleStepOf sagAngle rungs endedOn keptDivisions keptAfter near slackOf divisionsFrom division domainOf absOf ceilOf add sub mul div neg lt le eq ne ofBits ofInt toUnsigned
+unfolding wholeCorners sidesOf sides rungsOf stepsOf directionStepsOf segmentsOf angleStepOf sagAngle rungs endedOn keptDivisions keptAfter near slackOf divisionsFrom division domainOf absOf ceilOf add sub mul div neg lt le eq ne ofBits ofInt toUnsigned
 fourth-side = refl
 
 -- ---- a sphere of radius 1, 22 steps round and 11 up, of which the top division falls short of H
@@ -64,14 +64,14 @@ abbrev pub finest : Resolved
 finest = record { sag = count 10; angle = count 29 ⊘ count 100; «min_edge_segments» = 1 }
 
 sixty-six-corners : length (wholeCorners ball finest) ≡ 66
-unfolding wholeCorners sidesOf sides uRungs vRungs uSteps vSteps directionStepsOf segmentsOf angleStepOf sagAngle rungs endedOn keptDivisions keptAfter near slackOf divisionsFrom division domainOf sincosOf absOf ceilOf add sub mul div neg lt le eq ne ofBits ofInt toUnsigned
+unfolding wholeCorners sidesOf sides rungsOf stepsOf directionStepsOf segmentsOf angleStepOf sagAngle rungs endedOn keptDivisions keptAfter near slackOf divisionsFrom division domainOf sincosOf absOf ceilOf add sub mul div neg lt le eq ne ofBits ofInt toUnsigned
 sixty-six-corners = refl
 
 -- where the third side begins, and the fourth
 pole-corner : getD (wholeCorners ball finest) 33 (corner nan nan) ≡ corner TAU H
-unfolding wholeCorners sidesOf sides uRungs vRungs uSteps vSteps directionStepsOf segmentsOf angleStepOf sagAngle rungs endedOn keptDivisions keptAfter near slackOf divisionsFrom division domainOf sincosOf absOf ceilOf add sub mul div neg lt le eq ne ofBits ofInt toUnsigned
+unfolding wholeCorners sidesOf sides rungsOf stepsOf directionStepsOf segmentsOf angleStepOf sagAngle rungs endedOn keptDivisions keptAfter near slackOf divisionsFrom division domainOf sincosOf absOf ceilOf add sub mul div neg lt le eq ne ofBits ofInt toUnsigned
 pole-corner = refl
 
 pole-side : getD (wholeCorners ball finest) 55 (corner nan nan) ≡ corner plusZero H
-unfolding wholeCorners sidesOf sides uRungs vRungs uSteps vSteps directionStepsOf segmentsOf angleStepOf sagAngle rungs endedOn keptDivisions keptAfter near slackOf divisionsFrom division domainOf sincosOf absOf ceilOf add sub mul div neg lt le eq ne ofBits ofInt toUnsigned
+unfolding wholeCorners sidesOf sides rungsOf stepsOf directionStepsOf segmentsOf angleStepOf sagAngle rungs endedOn keptDivisions keptAfter near slackOf divisionsFrom division domainOf sincosOf absOf ceilOf add sub mul div neg lt le eq ne ofBits ofInt toUnsigned
 pole-side = refl

@@ -1,18 +1,12 @@
-// The boundary of a surface that nothing trims, its whole parameter rectangle: its parameters, and the
-// position of a corner.
+// The boundary of a surface that nothing trims, its whole parameter rectangle: how many corners it has,
+// the rungs of each direction, and the position of a corner.
 ghost use mathlib.Core.Path.{_≡_};
 ghost use mathlib.Core.Bool.{cond};
-ghost use mathlib.Core.List.{_++_, map, reverse};
-ghost use Prim.Native.Nat.{_-_, _≤_, _<_};
+ghost use Prim.Native.Nat.{_-_, _≤_};
 ghost use lib.Ieee.{le};
-ghost use lib.ListN.{length, replicate};
+ghost use lib.ListN.{length};
 ghost use lib.Seq.{sets};
-ghost use Rattle.loops.specs.Part.{partOf};
-ghost use Rattle.whole.specs.Boundary.{isWhole, clamped, centre, wrapOf, uSteps, vSteps, uRungs, vRungs, UEnds, VEnds, CountEnds, sidesOf, usOf, vsOf, wholeCorners, corner, positionOf, UColumnEnds, VColumnEnds};
-use loops::part::part;
-use loops::stretch::put_backward;
-use loops::stretch::put_forward;
-use loops::stretch::put_same;
+ghost use Rattle.whole.specs.Boundary.{isWhole, clamped, centre, wrapOf, rangeOf, otherThan, stepsOf, rungsOf, RungsEnd, RungsWritten, CountEnds, wholeCorners, positionOf};
 use numbers::math::Frame;
 use numbers::math::Interval;
 use numbers::math::Vec2;
@@ -25,7 +19,7 @@ use surfaces::steps::direction_steps;
 use surfaces::surface::Period;
 use surfaces::surface::Surface;
 
-fn is_whole(surface: Surface) -> bool
+pub fn is_whole(surface: Surface) -> bool
     ensures { λ r. ⌜ r ≡ isWhole surface ⌝ }
 {
     match surface {
@@ -71,41 +65,49 @@ fn wrap_end(range: Interval, t: f64) -> f64
     if t >= range.hi { range.lo } else { t }
 }
 
-fn u_steps(surface: Surface, options: Resolved) -> usize
-    ensures { λ r. ⌜ r ≡ uSteps surface options ⌝ }
+pub fn range_of(surface: Surface, axis: Axis) -> Interval
+    ensures { λ r. ⌜ r ≡ rangeOf axis surface ⌝ }
 {
     let d = surface.domain();
-    let u = d.u;
-    let v = d.v;
-    clamped(direction_steps(surface, Axis::U, u.lo, u.hi, centre(v), options))
+    match axis {
+        Axis::U => d.u,
+        Axis::V => d.v,
+    }
 }
 
-fn v_steps(surface: Surface, options: Resolved) -> usize
-    ensures { λ r. ⌜ r ≡ vSteps surface options ⌝ }
+fn other_than(axis: Axis) -> Axis
+    ensures { λ r. ⌜ r ≡ otherThan axis ⌝ }
 {
-    let d = surface.domain();
-    let u = d.u;
-    let v = d.v;
-    clamped(direction_steps(surface, Axis::V, v.lo, v.hi, centre(u), options))
+    match axis {
+        Axis::U => Axis::V,
+        Axis::V => Axis::U,
+    }
 }
 
-// How many corners a side has in the direction of u, less its last one, which begins the next side.
-fn u_count(surface: Surface, options: Resolved) -> usize
-    ensures { λ r. ⌜ (r ≡ length (uRungs surface options) - 1) × (r ≤ 256) ⌝ }
-    ensures { λ r. ⌜ UEnds surface options r ⌝ }
+fn steps(surface: Surface, axis: Axis, options: Resolved) -> usize
+    ensures { λ r. ⌜ r ≡ stepsOf axis surface options ⌝ }
 {
-    let d = surface.domain();
-    let u = d.u;
-    merge_even_steps(u.lo, u.hi, u_steps(surface, options))
+    let along = range_of(surface, axis);
+    let across = range_of(surface, other_than(axis));
+    clamped(direction_steps(surface, axis, along.lo, along.hi, centre(across), options))
 }
 
-fn v_count(surface: Surface, options: Resolved) -> usize
-    ensures { λ r. ⌜ (r ≡ length (vRungs surface options) - 1) × (r ≤ 256) ⌝ }
-    ensures { λ r. ⌜ VEnds surface options r ⌝ }
+// How many corners a side has, less its last one, which begins the next side.
+pub fn side_count(surface: Surface, axis: Axis, options: Resolved) -> usize
+    ensures { λ r. ⌜ (r ≡ length (rungsOf axis surface options) - 1) × (r ≤ 256) ⌝ }
+    ensures { λ r. ⌜ RungsEnd axis surface options r ⌝ }
 {
-    let d = surface.domain();
-    let v = d.v;
-    merge_even_steps(v.lo, v.hi, v_steps(surface, options))
+    let along = range_of(surface, axis);
+    merge_even_steps(along.lo, along.hi, steps(surface, axis, options))
+}
+
+// The rungs of a direction, as many as there is room for. There are at most 257.
+pub fn lay_rungs(surface: Surface, axis: Axis, options: Resolved, out: &mut [f64])
+    ensures { λ _. ⌜ now (out .exit) ≡ sets (now (out .entry)) 0 (rungsOf axis surface options) ⌝ }
+    ensures { λ _. ⌜ RungsWritten axis surface options (now (out .exit)) ⌝ }
+{
+    let along = range_of(surface, axis);
+    merge_even(along.lo, along.hi, steps(surface, axis, options), 0, out);
 }
 
 // How many corners the boundary has, and none for the kinds that have no whole.
@@ -114,73 +116,13 @@ pub fn full_domain_count(surface: Surface, options: Resolved) -> usize
     ensures { λ r. ⌜ CountEnds surface options r ⌝ }
 {
     if is_whole(surface) {
-        return 2 * (u_count(surface, options) + v_count(surface, options));
+        return 2 * (side_count(surface, Axis::U, options) + side_count(surface, Axis::V, options));
     }
     0
 }
 
-// The u of the corners: forward along the first side, at the high end on the second, backward on the
-// third, at the low end on the fourth. `us` are the rungs.
-fn put_u(us: &[f64], su: usize, sv: usize, range: Interval, out: &mut [f64])
-    requires { ⌜ (su < length (now us)) × ((su ≤ 256) × (sv ≤ 256)) ⌝ }
-    ensures { λ _. ⌜ now (out .exit) ≡ sets (now (out .entry)) 0 (partOf 0 su (now (us .entry)) ++ (replicate sv (range .hi) ++ (reverse (partOf 1 su (now (us .entry))) ++ replicate sv (range .lo)))) ⌝ }
-{
-    put_forward(out, 0, part(us, 0, su));
-    put_same(out, su, sv, range.hi);
-    put_backward(out, su + sv, part(us, 1, su));
-    put_same(out, su + sv + su, sv, range.lo);
-}
-
-// The v of the corners: at the low end on the first side, forward along the second, and so on.
-fn put_v(vs: &[f64], su: usize, sv: usize, range: Interval, out: &mut [f64])
-    requires { ⌜ (sv < length (now vs)) × ((su ≤ 256) × (sv ≤ 256)) ⌝ }
-    ensures { λ _. ⌜ now (out .exit) ≡ sets (now (out .entry)) 0 (replicate su (range .lo) ++ (partOf 0 sv (now (vs .entry)) ++ (replicate su (range .hi) ++ reverse (partOf 1 sv (now (vs .entry)))))) ⌝ }
-{
-    put_same(out, 0, su, range.lo);
-    put_forward(out, su, part(vs, 0, sv));
-    put_same(out, su + sv, su, range.hi);
-    put_backward(out, su + sv + su, part(vs, 1, sv));
-}
-
-// The u of all corners, with the rungs in an array of their own.
-fn u_of_corners(surface: Surface, options: Resolved, su: usize, sv: usize, out: &mut [f64])
-    requires { ⌜ (su ≡ length (uRungs surface options) - 1) × (sv ≡ length (vRungs surface options) - 1) ⌝ }
-    ensures { λ _. ⌜ now (out .exit) ≡ sets (now (out .entry)) 0 (usOf (sidesOf surface options)) ⌝ }
-    ensures { λ _. ⌜ UColumnEnds surface options (now (out .exit)) ⌝ }
-{
-    let d = surface.domain();
-    let range = d.u;
-    let mut us = [0.0; 257];
-    merge_even(range.lo, range.hi, u_steps(surface, options), 0, &mut us);
-    put_u(&us, su, sv, range, out);
-}
-
-fn v_of_corners(surface: Surface, options: Resolved, su: usize, sv: usize, out: &mut [f64])
-    requires { ⌜ (su ≡ length (uRungs surface options) - 1) × (sv ≡ length (vRungs surface options) - 1) ⌝ }
-    ensures { λ _. ⌜ now (out .exit) ≡ sets (now (out .entry)) 0 (vsOf (sidesOf surface options)) ⌝ }
-    ensures { λ _. ⌜ VColumnEnds surface options (now (out .exit)) ⌝ }
-{
-    let d = surface.domain();
-    let range = d.v;
-    let mut vs = [0.0; 257];
-    merge_even(range.lo, range.hi, v_steps(surface, options), 0, &mut vs);
-    put_v(&vs, su, sv, range, out);
-}
-
-// The u and the v of all corners.
-pub fn put_corners(surface: Surface, options: Resolved, u: &mut [f64], v: &mut [f64])
-    ensures { λ _. ⌜ now (u .exit) ≡ sets (now (u .entry)) 0 (usOf (sidesOf surface options)) ⌝ }
-    ensures { λ _. ⌜ now (v .exit) ≡ sets (now (v .entry)) 0 (vsOf (sidesOf surface options)) ⌝ }
-    ensures { λ _. ⌜ UColumnEnds surface options (now (u .exit)) × VColumnEnds surface options (now (v .exit)) ⌝ }
-{
-    let su = u_count(surface, options);
-    let sv = v_count(surface, options);
-    u_of_corners(surface, options, su, sv, u);
-    v_of_corners(surface, options, su, sv, v);
-}
-
-pub fn position_at(surface: Surface, frame: Frame, u: f64, v: f64) -> Vec3
-    ensures { λ r. ⌜ r ≡ positionOf surface frame (corner u v) ⌝ }
+pub fn position_at(surface: Surface, frame: Frame, c: Vec2) -> Vec3
+    ensures { λ r. ⌜ r ≡ positionOf surface frame c ⌝ }
 {
     let d = surface.domain();
     let ui = d.u;
@@ -190,8 +132,8 @@ pub fn position_at(surface: Surface, frame: Frame, u: f64, v: f64) -> Vec3
     surface.point_at(
         frame,
         Vec2 {
-            u: wrap(up, ui, u),
-            v: wrap(vp, vi, v),
+            u: wrap(up, ui, c.u),
+            v: wrap(vp, vi, c.v),
         },
     )
 }

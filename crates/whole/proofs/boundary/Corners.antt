@@ -17,7 +17,7 @@ use Rattle.surfaces.specs.declared.surface.Surface.the-variants.{Plane, Cylinde
 use Rattle.surfaces.specs.Domains.{domainOf}
 use Rattle.surfaces.specs.Rungs.{rungs, inner}
 use Rattle.surfaces.proofs.knots.Ended.{drop-added}
-use Rattle.whole.specs.Boundary.{isWhole, clamped, corner, sides, sidesOf, uSteps, vSteps, uRungs, vRungs, wholeCorners, usOf, vsOf, Stands, FourCorners}
+use Rattle.whole.specs.Boundary.{isWhole, clamped, corner, sides, sidesOf, stepsOf, rungsOf, wholeCorners, usOf, vsOf, Stands, FourCorners}
 use Rattle.whole.proofs.boundary.Rungs.{allRungs, backward, turn-rungs, sphere-rungs}
 
 -- ---- a corner that stands in a list
@@ -107,7 +107,7 @@ abbrev turnInner : ℕ → List Float
 turnInner n = inner (rungs plusZero TAU (clamped n))
 
 pub four-corners : (s : Surface) (o : Resolved) → isWhole s ≡ true → FourCorners (domainOf s) (usOf (wholeCorners s o)) (vsOf (wholeCorners s o))
-unfolding wholeCorners sidesOf uRungs vRungs uSteps vSteps domainOf
+unfolding wholeCorners sidesOf rungsOf stepsOf domainOf
 four-corners Plane o e = absurd (true≢false (sym e))
 four-corners (Cylinder R) o e = absurd (true≢false (sym e))
 four-corners (Cone R a) o e = absurd (true≢false (sym e))

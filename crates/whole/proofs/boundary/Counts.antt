@@ -38,7 +38,7 @@ use Rattle.loops.proofs.Paths.{net-nil, net-reverse}
 use Rattle.loops.proofs.RepeatsLaw.{net-constant}
 use Rattle.loops.proofs.SamePosition.{same-position}
 use Rattle.loops.proofs.StripLaw.{net-strip}
-use Rattle.whole.specs.Boundary.{clamped, corner, sides, sidesOf, uSteps, vSteps, uRungs, vRungs, wholeCorners, wrapOf, positionOf, wholePositions}
+use Rattle.whole.specs.Boundary.{clamped, corner, sides, sidesOf, stepsOf, rungsOf, wholeCorners, wrapOf, positionOf, wholePositions}
 use Rattle.whole.proofs.boundary.Meaning.{seam-closes}
 use Rattle.whole.proofs.boundary.Rungs.{allRungs, backward, quarters, turn-rungs, sphere-rungs}
 use Rattle.whole.proofs.boundary.Sides.{few-steps}
@@ -189,7 +189,7 @@ module _ (R : Float) (f : Frame) (w : Framed f) (size : Within (2 ^ 22) R) where
 
 -- 02, N2: "For a whole sphere or torus the step count of every pair of positions is then zero." Where there is no whole surface there are no steps.
 pub whole-still : (s : Surface) (f : Frame) (o : Resolved) → Framed f → Sizes s → (p q : Vec3) → net same p q (wholePositions s f o) ≡ pos 0
-unfolding wholePositions wholeCorners sidesOf uRungs vRungs uSteps vSteps domainOf
+unfolding wholePositions wholeCorners sidesOf rungsOf stepsOf domainOf
 whole-still Plane f o w z p q = net-nil same p q
 whole-still (Cylinder R) f o w z p q = net-nil same p q
 whole-still (Cone R a) f o w z p q = net-nil same p q

@@ -11,6 +11,8 @@ use lib.Ieee.{Float, le, neg, add, sub, mul, div, ofBits, ofInt}
 use lib.Ieee.Fits.{and-l, and-r}
 use Rattle.numbers.specs.Constants.{plusZero, H, TAU}
 use Rattle.surfaces.specs.declared.options.Resolved.{Resolved}
+use Rattle.surfaces.specs.declared.steps.Axis.{Axis}
+use Rattle.surfaces.specs.declared.steps.Axis.the-variants.{U, «V»}
 use Rattle.surfaces.specs.declared.surface.Surface.{Surface}
 use Rattle.surfaces.specs.declared.surface.Surface.the-variants.{Plane, Cylinder, Cone, Sphere, Torus}
 use Rattle.surfaces.specs.Domains.{domainOf}
@@ -19,7 +21,7 @@ use Rattle.surfaces.specs.Sorting.{rising}
 use Rattle.surfaces.proofs.knots.Rising.{Stretch}
 use Rattle.surfaces.proofs.knots.RisingRungs.{rungs-rise}
 use Rattle.surfaces.proofs.surface.Domains.{turn-stretch, sphere-stretch}
-use Rattle.whole.specs.Boundary.{isWhole, clamped, uSteps, vSteps, uRungs, vRungs}
+use Rattle.whole.specs.Boundary.{isWhole, clamped, stepsOf, rungsOf}
 use Rattle.whole.proofs.boundary.Sides.{few-steps}
 
 module _ (lo hi : Float) where
@@ -56,18 +58,12 @@ sphere-below : T (allBelow (neg H) H 256)
 unfolding allBelow division add sub mul div neg le ofBits ofInt
 sphere-below = tt
 
-pub u-rise : (s : Surface) (o : Resolved) → isWhole s ≡ true → T (rising (uRungs s o))
-unfolding uRungs uSteps domainOf
-u-rise Plane o e = absurd (true≢false (sym e))
-u-rise (Cylinder R) o e = absurd (true≢false (sym e))
-u-rise (Cone R a) o e = absurd (true≢false (sym e))
-u-rise (Sphere R) o e = clamped-rise plusZero TAU turn-stretch turn-below _
-u-rise (Torus R r) o e = clamped-rise plusZero TAU turn-stretch turn-below _
-
-pub v-rise : (s : Surface) (o : Resolved) → isWhole s ≡ true → T (rising (vRungs s o))
-unfolding vRungs vSteps domainOf
-v-rise Plane o e = absurd (true≢false (sym e))
-v-rise (Cylinder R) o e = absurd (true≢false (sym e))
-v-rise (Cone R a) o e = absurd (true≢false (sym e))
-v-rise (Sphere R) o e = clamped-rise (neg H) H sphere-stretch sphere-below _
-v-rise (Torus R r) o e = clamped-rise plusZero TAU turn-stretch turn-below _
+pub whole-rise : (s : Surface) (o : Resolved) → isWhole s ≡ true → (a : Axis) → T (rising (rungsOf a s o))
+unfolding rungsOf stepsOf domainOf
+whole-rise Plane o e a = absurd (true≢false (sym e))
+whole-rise (Cylinder R) o e a = absurd (true≢false (sym e))
+whole-rise (Cone R c) o e a = absurd (true≢false (sym e))
+whole-rise (Sphere R) o e U = clamped-rise plusZero TAU turn-stretch turn-below _
+whole-rise (Sphere R) o e «V» = clamped-rise (neg H) H sphere-stretch sphere-below _
+whole-rise (Torus R r) o e U = clamped-rise plusZero TAU turn-stretch turn-below _
+whole-rise (Torus R r) o e «V» = clamped-rise plusZero TAU turn-stretch turn-below _
