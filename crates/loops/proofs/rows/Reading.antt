@@ -13,7 +13,7 @@ use Rattle.tables.specs.Rows.{rows}
 use Rattle.tables.proofs.Taking.{count-u}
 use Rattle.loops.specs.Area.{crossAt}
 use Rattle.loops.specs.Wrap.{turnsCounted, netWrap}
-use Rattle.loops.proofs.area.Laws.{Summing, summing-turn}
+use Rattle.loops.proofs.rows.Area.{Summing, summing-turn}
 use Rattle.loops.proofs.wrap.Laws.{net-of-few, net-of-more}
 
 module _ (t : List Float) (n : ℕ) (e : n ≡ length (rows t)) where

@@ -1,4 +1,4 @@
-use Rattle.loops.proofs.area.Laws.{next-within, next-round}
+use Rattle.loops.proofs.rows.Area.{next-within, next-round}
 use borrow.Author.Needs.{needs}
 use Rattle.loops.proofs.rows.next.Statement.{statement}
 use Rattle.loops.proofs.rows.next.Tie as tie

@@ -1,5 +1,5 @@
 use Prim.Native.Nat.{_-_}
-use Rattle.loops.proofs.area.Laws.{summing, summing-end}
+use Rattle.loops.proofs.rows.Area.{summing, summing-end}
 use Rattle.loops.specs.Area.{crossSum}
 use Rattle.loops.proofs.rows.Reading.{Adding, adding-turn, count-both}
 use borrow.Author.Needs.{needs}
