@@ -36,9 +36,9 @@ use Rattle.results.specs.declared.Path.the-variants.{Closed}
 use Rattle.judgement.specs.Face.{surfaceIn, loopsIn, wrapping, uPeriodIn, vPeriodIn}
 use Rattle.judgement.specs.Paths.{ResultLoop, signedArea, closedLoops, resultLoops}
 use Rattle.judgement.proofs.Written.{result-fine}
-use Rattle.measuring.specs.Loops.{recordsFrom}
+use Rattle.loop_records.specs.Loops.{recordsFrom}
 use Rattle.measuring.proofs.Measured.{areas-shown}
-use Rattle.measuring.proofs.Recorded.{read-out}
+use Rattle.loop_records.proofs.Recorded.{read-out}
 use Rattle.closed_face.specs.First.{partFirst}
 use Rattle.closed_face.specs.Face.{outerFound, rowsThen, areasLeft, IsFace}
 use Rattle.closed_face.proofs.first.Laws.{length-first}

@@ -1,4 +1,4 @@
--- The number of a loop that is found, the sign of a travel, a ring that is copied, the areas of the holes, and both rings.
+-- The number of a loop that is found, the sign of a travel, the areas of the holes, and both rings.
 use Prim.Native.Nat.{ℕ, _≤_, min}
 use mathlib.Core.Path.{_≡_, refl, sym, ap, _∙_}
 use mathlib.Core.Bool.{Bool}
@@ -37,10 +37,11 @@ use Rattle.records.specs.declared.check.Place.{Place}
 use Rattle.records.specs.declared.check.Place.the-variants.{Nowhere, At}
 use Rattle.judgement.specs.Face.{frameIn, surfaceIn, optionsIn, senseIn, wrapping}
 use Rattle.judgement.specs.Paths.{signedArea}
-use Rattle.measuring.specs.Loops.{recordsFrom, wrapsIn}
+use Rattle.loop_records.specs.Loops.{recordsFrom}
+use Rattle.measuring.specs.Loops.{wrapsIn}
 use Rattle.measuring.specs.Refusals.{wrapsAt, lastWhere}
 use Rattle.measuring.proofs.Measured.{areas-shown}
-use Rattle.measuring.proofs.Recorded.{read-out}
+use Rattle.loop_records.proofs.Recorded.{read-out}
 use Rattle.holes.specs.Others.{others}
 use Rattle.filling.specs.Band.{BandFace}
 use Rattle.filling.proofs.TwoRings.{some-first, some-last}
@@ -57,9 +58,6 @@ negative (negsuc n) = refl
 
 pub falls-by : (z : ℤ) → SFits w32 z → ltZ (toZ w32 (ofZ w32 z)) (pos 0) ≡ falls z
 falls-by z f = ap (λ (x : ℤ). ltZ x (pos 0)) (toZ-ofZ f) ∙ negative z
-
-pub ring-put : {A : Type 0} (w w′ d d′ : List A) → w ≡ w′ → d′ ≡ placed 0 w d → d′ ≡ placed 0 w′ d
-ring-put w w′ d d′ e put = put ∙ ap (λ (l : List _). placed 0 l d) e
 
 -- the areas that are picked are those of the loops
 pub areas-put : (period : Period) (ns : List ℕ) (corners : Corners Vec3) (loops : List LoopRecord) (m₀ m : List Float) (l a b : ℕ) (dst dst′ : List Float) → l ≡ min (length ns) 16 → length m₀ ≡ 16

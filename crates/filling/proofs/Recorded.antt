@@ -19,8 +19,8 @@ use Rattle.loop_records.specs.Record.{noLoop}
 use Rattle.bands.specs.Given.{falls}
 use Rattle.records.specs.Bytes.{sum}
 use Rattle.judgement.proofs.Sizes.{total}
-use Rattle.measuring.specs.Loops.{wrapAlong, signOf, recordOf, recordsFrom}
-use Rattle.measuring.proofs.Recorded.{length-records}
+use Rattle.loop_records.specs.Loops.{wrapAlong, signOf, recordOf, recordsFrom}
+use Rattle.loop_records.proofs.Recorded.{length-records}
 
 falls-sign : (z : ℤ) → falls (signOf z) ≡ falls z
 falls-sign (pos zero) = refl

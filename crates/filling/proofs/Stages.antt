@@ -34,12 +34,13 @@ use Rattle.judgement.proofs.Demands.{two-wrap}
 use Rattle.judgement.proofs.Loops.{measured-many}
 use Rattle.judgement.proofs.Sizes.{only-few}
 use Rattle.measuring.specs.Head.{frameAt, optionsAt}
-use Rattle.measuring.specs.Loops.{recordsFrom, wrapsIn}
+use Rattle.loop_records.specs.Loops.{recordsFrom}
+use Rattle.measuring.specs.Loops.{wrapsIn}
 use Rattle.measuring.specs.Refusals.{wrappingOf}
 use Rattle.measuring.proofs.Heads.{frame-read, surface-read, options-read}
 use Rattle.measuring.proofs.Judged.{wrapping-in}
 use Rattle.measuring.proofs.Measured.{wraps-shown}
-use Rattle.measuring.proofs.Recorded.{read-out}
+use Rattle.loop_records.proofs.Recorded.{read-out}
 use Rattle.filling.specs.declared.face.Filled.{Filled}
 use Rattle.filling.specs.declared.face.Filled.the-variants.{Refused}
 use Rattle.filling.specs.declared.verdict.Verdict.{Verdict as Found}

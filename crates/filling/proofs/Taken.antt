@@ -34,7 +34,7 @@ use Rattle.records.proofs.Columns.{length-counts, length-corners}
 use Rattle.judgement.specs.Face.{surfaceIn, loopsIn, wrapOf, measuredIn, settingIn, givenIn}
 use Rattle.judgement.specs.Later.{loopIn}
 use Rattle.judgement.proofs.Loops.{loops-many, loops-total}
-use Rattle.measuring.specs.Loops.{wrapAlong}
+use Rattle.loop_records.specs.Loops.{wrapAlong}
 use Rattle.measuring.proofs.Judged.{none, corners-in}
 use Rattle.measuring.proofs.RingsGiven.{first-given, later-given}
 use Rattle.holes.specs.Others.{others}

@@ -29,7 +29,8 @@ use Rattle.records.specs.Face.{counts, cornersIn}
 use Rattle.records.specs.Limits.{version1}
 use Rattle.records.specs.Refusals.{at, firstWhere}
 use Rattle.judgement.specs.Face.{frameIn, surfaceIn, optionsIn, senseIn, wrapping}
-use Rattle.measuring.specs.Loops.{recordsFrom, wrapsIn}
+use Rattle.loop_records.specs.Loops.{recordsFrom}
+use Rattle.measuring.specs.Loops.{wrapsIn}
 use Rattle.measuring.specs.Refusals.{wrapsAt, lastWhere}
 
 module _ (S : Setting Vec3) (given : Given Vec3) where

@@ -13,7 +13,8 @@ ghost use Rattle.records.specs.Accepted.{Accepted};
 ghost use Rattle.records.specs.Face.{loops as loopsOf, counts as countsOf, cornersIn};
 ghost use Rattle.records.specs.Refusals.{passes, verdict, at};
 ghost use Rattle.judgement.specs.Face.{surfaceIn, frameIn, optionsIn, senseIn, loopsIn, wrapping, settingIn, givenIn};
-ghost use Rattle.measuring.specs.Loops.{recordsFrom, wrapsIn};
+ghost use Rattle.loop_records.specs.Loops.{recordsFrom};
+ghost use Rattle.measuring.specs.Loops.{wrapsIn};
 ghost use Rattle.filling.specs.Filled.{FillsTo};
 ghost use Rattle.filling.specs.Stages.{stripConditions};
 ghost use Rattle.numbers.specs.declared.math.Vec3.{Vec3};
@@ -37,7 +38,7 @@ use laying::reseam::reseam;
 use laying::start::take_start;
 use loop_records::LoopRecord;
 use loop_records::areas_of;
-use loop_records::loop_at;
+use loop_records::ring::ring_of;
 use measuring::refusals::first_wrapping;
 use measuring::refusals::last_wrapping;
 use numbers::math::Frame;
@@ -50,7 +51,6 @@ use surfaces::options::Resolved;
 use surfaces::surface::Period;
 use surfaces::surface::Surface;
 use tables::copies::copy_rows;
-use tables::pieces::part_of;
 use whole::boundary::full_domain_count;
 use whole::table::full_domain_loop;
 use wrapped_region::order::goes_with;
@@ -200,14 +200,11 @@ fn band_between(
     )
 }
 
-// The loop that a record tells of into the front of dst, and five times its count, at most 2,560.
-fn take_ring(dst: &mut [f64], corners: &[f64], one: LoopRecord) -> usize
-    ensures { λ r. ⌜ r ≡ 5 * min (one .count) (version1 .points) ⌝ }
-    ensures { λ r. ⌜ rows (now (dst .exit)) ≡ placed 0 (take (one .count) (drop (one .start) (rows (now (corners .entry))))) (rows (now (dst .entry))) ⌝ }
+// How many reals that many rows are, at most the 2,560 of a ring.
+fn ring_reals(rows: usize) -> usize
+    ensures { λ r. ⌜ r ≡ 5 * min rows (version1 .points) ⌝ }
 {
-    let n = one.count;
-    copy_rows(dst, 0, part_of(corners, one.start, n));
-    5 * shorter(n, 512)
+    5 * shorter(rows, 512)
 }
 
 // The band of a face whose rings are its loops of number a and b, into the front of t; the holes as
@@ -231,10 +228,10 @@ fn band_of(
     let mut first = [0.0; 2560];
     let mut later = [0.0; 2560];
     let mut counts = [0; 16];
-    let one = loop_at(loops, a);
-    let other = loop_at(loops, b);
-    let m = take_ring(&mut first, corners, one);
-    let n = take_ring(&mut later, corners, other);
+    let one = ring_of(&mut first, corners, loops, a);
+    let other = ring_of(&mut later, corners, loops, b);
+    let m = ring_reals(one.count);
+    let n = ring_reals(other.count);
     pick_holes(holes, 0, corners, given, a, b);
     pick_counts(&mut counts, 0, given, a, b);
     let k = shorter(count_holes(given.len(), a, b), 16);

@@ -10,7 +10,6 @@ use Rattle.lists.proofs.Elements.{getD-map}
 use Rattle.lists.proofs.Filling.{Filling, front, front-turn, filling-end}
 use Rattle.lists.proofs.Placed.{placed-short}
 use Rattle.loop_records.specs.declared.LoopRecord.{LoopRecord}
-use Rattle.loop_records.specs.Record.{noLoop}
 
 module _ {B : Type 0} (f : LoopRecord → B) (loops : List LoopRecord) (n : ℕ) (d₀ : List B) where
   abbrev wanted : List B
@@ -31,8 +30,9 @@ module _ {B : Type 0} (f : LoopRecord → B) (loops : List LoopRecord) (n : ℕ)
   pub reading : (k : ℕ) → length loops ≡ 16 → k ≡ min n 16 → k ≤ length d₀ → Reading d₀ k 0
   reading k l e h = let w = length-wanted l in record { all = omega arith; few = e; long = l; fill = front wanted d₀ (omega arith) }
 
-  pub reading-turn : (d : List B) (k i : ℕ) (x z : B) → Reading d k i → i < k → x ≡ f (getD loops i noLoop) → Reading (set d i x) k (i + 1)
-  reading-turn d k i x z r h e =
+  -- the record may be read with any record past the end
+  pub reading-turn : (d : List B) (k i : ℕ) (x z : B) (none : LoopRecord) → Reading d k i → i < k → x ≡ f (getD loops i none) → Reading (set d i x) k (i + 1)
+  reading-turn d k i x z none r h e =
       let all = r .all in
       let few = r .few in
       let long = r .long in
@@ -42,7 +42,7 @@ module _ {B : Type 0} (f : LoopRecord → B) (loops : List LoopRecord) (n : ℕ)
         few = few;
         long = long;
         fill = front-turn wanted d₀ d i x z (r .fill) (omega arith)
-            (e ∙ ap f (sym (getD-take n loops i noLoop (omega arith))) ∙ sym (getD-map f (take n loops) i z noLoop (omega arith)));
+            (e ∙ ap f (sym (getD-take n loops i none (omega arith))) ∙ sym (getD-map f (take n loops) i z none (omega arith)));
       }
 
   pub reading-end : (d : List B) (k i : ℕ) → Reading d k i → k ≤ i → d ≡ placed 0 wanted d₀

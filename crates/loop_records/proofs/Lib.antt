@@ -1,2 +1,4 @@
 mod Local
 mod Columns
+pub mod Recorded
+mod Rings

@@ -1,1 +1,3 @@
 pub mod Record
+pub mod Loops
+pub mod Ring

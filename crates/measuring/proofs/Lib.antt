@@ -1,5 +1,4 @@
 pub mod Heads
-pub mod Recorded
 pub mod Measured
 pub mod Judged
 pub mod Searches

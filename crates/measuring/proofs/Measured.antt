@@ -3,7 +3,7 @@ use Prim.Native.Nat.{ℕ, _+_, _≤_}
 use mathlib.Core.Path.{_≡_, refl, sym, ap, _∙_}
 use mathlib.Core.List.{List, [], _∷_, map, map-map}
 use native.Mathlib.Omega.{arith}
-use lib.IntN.{ℤ, pos}
+use lib.IntN.{ℤ}
 use lib.Ieee.{Float}
 use lib.ListN.{length, take, length-map}
 use Rattle.numbers.specs.declared.math.Vec3.{Vec3}
@@ -13,22 +13,12 @@ use Rattle.surfaces.specs.Domains.{uPeriod}
 use Rattle.lists.specs.Placed.{placed}
 use Rattle.lists.proofs.Placed.{front-placed}
 use Rattle.tables.specs.Corners.{Corner, Corners, us}
-use Rattle.loops.specs.Wrap.{netWrap}
 use Rattle.loop_records.specs.declared.LoopRecord.{LoopRecord}
 use Rattle.judgement.specs.Face.{surfaceIn, loopsIn, wrapOf, measuredIn}
 use Rattle.judgement.specs.Paths.{signedArea}
-use Rattle.measuring.specs.Loops.{wrapAlong, recordOf, recordsFrom, wrapsIn}
-use Rattle.measuring.proofs.Recorded.{length-records, wraps-recorded}
-
--- ---- as the code finds them
-
-pub wrap-every : (us : List Float) (period : Period) (p : Float) (r : ℤ) → period ≡ Every p → r ≡ netWrap us p → r ≡ wrapAlong period us
-wrap-every us period p r e w = w ∙ sym (ap (λ (q : Period). wrapAlong q us) e)
-
-pub wrap-none : (us : List Float) (period : Period) → period ≡ None → pos 0 ≡ wrapAlong period us
-wrap-none us period e = sym (ap (λ (q : Period). wrapAlong q us) e)
-
--- ---- those of a record
+use Rattle.loop_records.specs.Loops.{wrapAlong, recordOf, recordsFrom}
+use Rattle.loop_records.proofs.Recorded.{length-records, wraps-recorded}
+use Rattle.measuring.specs.Loops.{wrapsIn}
 
 same-wrap : (p : Period) (loop : Corners Vec3) → wrapAlong p (us loop) ≡ wrapOf p loop
 same-wrap None loop = refl

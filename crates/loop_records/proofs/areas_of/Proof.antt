@@ -1,5 +1,5 @@
 use Prim.Native.Nat.{_-_}
-use mathlib.Core.Path.{ap}
+use mathlib.Core.Path.{refl}
 use native.Mathlib.Omega.{arith}
 use lib.Ieee.{nan}
 use borrow.Author.Needs.{needs}
@@ -9,13 +9,10 @@ use Rattle.loop_records.proofs.areas_of.Statement.{statement}
 use Rattle.loop_records.proofs.areas_of.Tie as tie
 
 abbrev Inv-loop : tie.InvT-loop
-Inv-loop loops n areas₀ k i₀ areas i = Reading (λ (l : LoopRecord). l .area) loops n areas₀ areas k i
+Inv-loop n areas₀ loops k i₀ areas i = Reading (λ (l : LoopRecord). l .area) loops n areas₀ areas k i
 
 abbrev μ-loop : tie.MeasureT-loop
-μ-loop loops n areas₀ k i₀ areas i = k - i
-
-shorter-requires : tie.Need-shorter-requires Inv-loop μ-loop
-shorter-requires c κs = search needs
+μ-loop n areas₀ loops k i₀ areas i = k - i
 
 returns : tie.Need-returns Inv-loop μ-loop
 returns c = no-reading _ _ _ _ _ (c .before .before .before .good .0 .1 .0 .1) (c .before .shorter .ensures) (c .if1 .taken)
@@ -23,23 +20,14 @@ returns c = no-reading _ _ _ _ _ (c .before .before .before .good .0 .1 .0 .1) (
 loop-holds : tie.Need-loop-holds Inv-loop μ-loop
 loop-holds c = reading _ _ _ _ _ (c .before .before .before .good .0 .1 .0 .1) (c .before .shorter .ensures) (c .if1 .left)
 
-record-of-requires : tie.Need-record-of-requires Inv-loop μ-loop
-record-of-requires c κs = let few = c .before .loop .inv .few in omega arith
-
-mul-areas : tie.Need-mul-areas Inv-loop μ-loop
-mul-areas c = let l = c .before .before .loop .inv .fill .long in omega arith
+record-read : tie.Need-array-copy-out-one Inv-loop μ-loop
+record-read c = let few = c .before .loop .inv .few in omega arith
 
 slice-write-areas : tie.Need-slice-write-areas Inv-loop μ-loop
 slice-write-areas c = let l = c .before .before .loop .inv .fill .long in omega arith
 
-add-i : tie.Need-add-i Inv-loop μ-loop
-add-i c = omega arith
-
-loop-less : tie.Need-loop-less Inv-loop μ-loop
-loop-less c = omega arith
-
 loop-again : tie.Need-loop-again Inv-loop μ-loop
-loop-again c = reading-turn _ _ _ _ _ _ _ _ nan (c .before .before .loop .inv) (c .before .loop-test .taken) (ap (λ (l : LoopRecord). l .area) (c .record-of .ensures))
+loop-again c = reading-turn _ _ _ _ _ _ _ _ nan _ (c .before .before .loop .inv) (c .before .loop-test .taken) refl
 
 same-length : tie.Need-same-length Inv-loop μ-loop
 same-length c = c .before .loop .inv .fill .long
@@ -53,14 +41,15 @@ areas-of-spec =
     (tie.spec
     Inv-loop
     μ-loop
-    shorter-requires
+    (λ c κs. search needs)
     returns
     loop-holds
-    record-of-requires
-    mul-areas
+    (λ c. omega (arith, c .before .loop .inv .few))
+    record-read
+    (λ c. omega (arith, c .before .before .loop .inv .fill .long))
     slice-write-areas
-    add-i
-    loop-less
+    (λ c. omega arith)
+    (λ c. omega arith)
     loop-again
     same-length
     returns-2)

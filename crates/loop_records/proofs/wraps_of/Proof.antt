@@ -1,5 +1,4 @@
 use Prim.Native.Nat.{_-_}
-use mathlib.Core.Path.{ap, _∙_}
 use lib.IntN.{pos}
 use native.Mathlib.Omega.{arith}
 use mir.Facts.{toZ-ofZ}
@@ -10,13 +9,10 @@ use Rattle.loop_records.proofs.wraps_of.Statement.{statement}
 use Rattle.loop_records.proofs.wraps_of.Tie as tie
 
 abbrev Inv-loop : tie.InvT-loop
-Inv-loop loops n wraps₀ k i₀ wraps i = Reading (λ (l : LoopRecord). l .wrap) loops n wraps₀ wraps k i
+Inv-loop n wraps₀ loops k i₀ wraps i = Reading (λ (l : LoopRecord). l .wrap) loops n wraps₀ wraps k i
 
 abbrev μ-loop : tie.MeasureT-loop
-μ-loop loops n wraps₀ k i₀ wraps i = k - i
-
-shorter-requires : tie.Need-shorter-requires Inv-loop μ-loop
-shorter-requires c κs = search needs
+μ-loop n wraps₀ loops k i₀ wraps i = k - i
 
 returns : tie.Need-returns Inv-loop μ-loop
 returns c = no-reading _ _ _ _ _ (c .before .before .good .0 .1 .0 .1) (c .before .shorter .ensures) (c .if1 .taken)
@@ -24,23 +20,15 @@ returns c = no-reading _ _ _ _ _ (c .before .before .good .0 .1 .0 .1) (c .befor
 loop-holds : tie.Need-loop-holds Inv-loop μ-loop
 loop-holds c = reading _ _ _ _ _ (c .before .before .good .0 .1 .0 .1) (c .before .shorter .ensures) (c .if1 .left)
 
-record-of-requires : tie.Need-record-of-requires Inv-loop μ-loop
-record-of-requires c κs = let few = c .before .loop .inv .few in omega arith
-
-mul-wrap : tie.Need-mul-wrap Inv-loop μ-loop
-mul-wrap c = omega arith
+record-read : tie.Need-array-copy-out-one Inv-loop μ-loop
+record-read c = let few = c .before .loop .inv .few in omega arith
 
 slice-set-from-wrap : tie.Need-slice-set-from-wrap Inv-loop μ-loop
 slice-set-from-wrap c = let l = c .before .before .before .loop .inv .fill .long in omega arith
 
-add-i : tie.Need-add-i Inv-loop μ-loop
-add-i c = omega arith
-
-loop-less : tie.Need-loop-less Inv-loop μ-loop
-loop-less c = omega arith
-
 loop-again : tie.Need-loop-again Inv-loop μ-loop
-loop-again c = reading-turn _ _ _ _ _ _ _ _ (pos 0) (c .before .before .before .loop .inv) (c .before .before .loop-test .taken) (toZ-ofZ (sfits-of (c .struct-told .given .1 .1 .0 .1)) ∙ ap (λ (l : LoopRecord). l .wrap) (c .before .record-of .ensures))
+loop-again c =
+    reading-turn _ _ _ _ _ _ _ _ (pos 0) _ (c .before .before .before .loop .inv) (c .before .before .loop-test .taken) (toZ-ofZ (sfits-of (c .struct-told .given .1 .1 .0 .1)))
 
 same-length : tie.Need-same-length Inv-loop μ-loop
 same-length c = c .before .loop .inv .fill .long
@@ -54,14 +42,15 @@ wraps-of-spec =
     (tie.spec
     Inv-loop
     μ-loop
-    shorter-requires
+    (λ c κs. search needs)
     returns
     loop-holds
-    record-of-requires
-    mul-wrap
+    (λ c. omega (arith, c .before .loop .inv .few))
+    record-read
+    (λ c. omega arith)
     slice-set-from-wrap
-    add-i
-    loop-less
+    (λ c. omega arith)
+    (λ c. omega arith)
     loop-again
     same-length
     returns-2)

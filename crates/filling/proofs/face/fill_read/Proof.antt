@@ -13,7 +13,7 @@ use Rattle.filling.proofs.face.fill_path.Reads as fill-path-reads
 use Rattle.filling.proofs.rings.check_rings.Reads as check-rings-reads
 use Rattle.loop_records.proofs.wraps_of.Reads as wraps-of-reads
 use Rattle.measuring.proofs.head.surface_of.Reads as surface-of-reads
-use Rattle.measuring.proofs.measure.measure_loops.Reads as measure-loops-reads
+use Rattle.loop_records.proofs.measure.measure_loops.Reads as measure-loops-reads
 use Rattle.slices.proofs.at.Reads as at-reads
 use Rattle.slices.proofs.shorter.Reads as shorter-reads
 use Rattle.surfaces.proofs.surface.Surface.u_period.Reads as u-period-reads

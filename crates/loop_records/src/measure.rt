@@ -1,17 +1,16 @@
 // A record of each loop of a face. The loops stand one behind the other in a table, and `counts` says
 // how many points each has. Where the counts run past the end, a loop is what is left.
 ghost use mathlib.Core.Path.{_≡_};
-ghost use Prim.Native.Nat.{_-_, _≤_};
-ghost use lib.ListN.{length, take, drop, replicate};
+ghost use Prim.Native.Nat.{_-_, _≤_, _<_};
+ghost use lib.ListN.{length, set, take, drop, replicate};
 ghost use Rattle.lists.specs.Pieces.{pieces};
 ghost use Rattle.lists.specs.Placed.{placed};
 ghost use Rattle.tables.specs.Corners.{us};
 ghost use Rattle.tables.specs.Rows.{rows};
 ghost use Rattle.loop_records.specs.Record.{noLoop};
-ghost use Rattle.measuring.specs.Loops.{wrapAlong, signOf, recordOf, recordsFrom};
-use loop_records::LoopRecord;
-use loop_records::no_loops;
-use loop_records::with_loop;
+ghost use Rattle.loop_records.specs.Loops.{wrapAlong, signOf, recordOf, recordsFrom};
+use super::LoopRecord;
+use super::no_loop;
 use loops::rows::net_wrap;
 use loops::rows::signed_area;
 use slices::piece_end;
@@ -53,20 +52,52 @@ fn measured(t: &[f64], start: usize, period: Period) -> LoopRecord
     }
 }
 
-fn measured_part(t: &[f64], from: usize, to: usize, period: Period) -> LoopRecord
-    requires { ⌜ (from ≤ to) × (to ≤ length (rows (now t))) ⌝ }
-    ensures { λ r. ⌜ r ≡ recordOf period from (take (to - from) (drop from (rows (now (t .entry))))) ⌝ }
+// One loop measured into the list.
+fn measure_loop(loops: &mut [LoopRecord], i: usize, t: &[f64], start: usize, period: Period)
+    requires { ⌜ i < length (now loops) ⌝ }
+    ensures { λ _. ⌜ now (loops .exit) ≡ set (now (loops .entry)) i (recordOf period start (rows (now (t .entry)))) ⌝ }
+{
+    loops[i] = measured(t, start, period);
+}
+
+// The array with one loop measured into it while it is lent.
+fn with_loop(
+    loops: [LoopRecord; 16],
+    i: usize,
+    t: &[f64],
+    start: usize,
+    period: Period,
+) -> [LoopRecord; 16]
+    requires { ⌜ i < 16 ⌝ }
+    ensures { λ r. ⌜ r ≡ set loops i (recordOf period start (rows (now (t .entry)))) ⌝ }
+{
+    let mut lent = loops;
+    measure_loop(&mut lent, i, t, start, period);
+    lent
+}
+
+// The same of the rows `from` to `to`.
+fn with_part(
+    loops: [LoopRecord; 16],
+    i: usize,
+    t: &[f64],
+    from: usize,
+    to: usize,
+    period: Period,
+) -> [LoopRecord; 16]
+    requires { ⌜ (i < 16) × (from ≤ to) × (to ≤ length (rows (now t))) ⌝ }
+    ensures { λ r. ⌜ r ≡ set loops i (recordOf period from (take (to - from) (drop from (rows (now (t .entry)))))) ⌝ }
 {
     let a = 5 * from;
     let e = 5 * to;
-    measured(&t[a..e], from, period)
+    with_loop(loops, i, &t[a..e], from, period)
 }
 
 // A record for each loop, and none where there are more loops than the list has records.
 pub fn measure_loops(t: &[f64], counts: &[usize], period: Period) -> [LoopRecord; 16]
     ensures { λ r. ⌜ r ≡ placed 0 (recordsFrom period 0 (pieces (now (counts .entry)) (rows (now (t .entry))))) (replicate 16 noLoop) ⌝ }
 {
-    let mut loops = no_loops();
+    let mut loops = [no_loop(); 16];
     if counts.len() > 16 {
         return loops;
     }
@@ -75,7 +106,7 @@ pub fn measure_loops(t: &[f64], counts: &[usize], period: Period) -> [LoopRecord
     let mut i = 0;
     while i < counts.len() {
         let to = piece_end(n, from, counts[i]);
-        let next = with_loop(loops, i, measured_part(t, from, to, period));
+        let next = with_part(loops, i, t, from, to, period);
         loops = next;
         from = to;
         i += 1;

@@ -1,13 +1,13 @@
 use borrow.Author.Needs.{needs}
 use borrow.Author.Needs.{needs, sfits-of}
-use Rattle.measuring.proofs.Recorded.{record-is}
-use Rattle.measuring.proofs.measure.measured.Statement.{statement}
-use Rattle.measuring.proofs.measure.measured.Tie as tie
-use Rattle.measuring.proofs.measure.measured.Reads as reads
-use Rattle.measuring.proofs.measure.measured.Lts as lts
+use Rattle.loop_records.proofs.Recorded.{record-is}
+use Rattle.loop_records.proofs.measure.measured.Statement.{statement}
+use Rattle.loop_records.proofs.measure.measured.Tie as tie
+use Rattle.loop_records.proofs.measure.measured.Reads as reads
+use Rattle.loop_records.proofs.measure.measured.Lts as lts
 use Rattle.loops.proofs.rows.signed_area.Reads as signed-area-reads
-use Rattle.measuring.proofs.measure.sign_of.Reads as sign-of-reads
-use Rattle.measuring.proofs.measure.wrap_of.Reads as wrap-of-reads
+use Rattle.loop_records.proofs.measure.sign_of.Reads as sign-of-reads
+use Rattle.loop_records.proofs.measure.wrap_of.Reads as wrap-of-reads
 use Rattle.tables.proofs.corners.count.Reads as count-reads
 
 wrap-of-requires : tie.Need-wrap-of-requires

@@ -1,6 +1,6 @@
-use Rattle.measuring.proofs.Recorded.{sign-below, sign-over, sign-none}
-use Rattle.measuring.proofs.measure.sign_of.Statement.{statement}
-use Rattle.measuring.proofs.measure.sign_of.Tie as tie
+use Rattle.loop_records.proofs.Recorded.{sign-below, sign-over, sign-none}
+use Rattle.loop_records.proofs.measure.sign_of.Statement.{statement}
+use Rattle.loop_records.proofs.measure.sign_of.Tie as tie
 
 returns : tie.Need-returns
 returns c = sign-below _ (c .before .fits .wrap) (c .if1 .taken)

@@ -16,16 +16,26 @@ use mir.Val.{SFits, toZ, ofZ}
 use mir.Facts.{toZ-ofZ}
 use Rattle.numbers.specs.declared.math.Vec3.{Vec3}
 use Rattle.surfaces.specs.declared.surface.Period.{Period}
+use Rattle.surfaces.specs.declared.surface.Period.the-variants.{Every, None}
 use Rattle.lists.specs.Pieces.{pieces}
 use Rattle.lists.specs.Placed.{placed}
 use Rattle.lists.proofs.Filling.{Filling, front, front-turn, filling-end}
 use Rattle.lists.proofs.Pieces.{Cutting, cutting, cutting-turn, cutting-piece, length-pieces}
 use Rattle.lists.proofs.Placed.{placed-short, front-placed}
 use Rattle.loop_records.specs.declared.LoopRecord.{LoopRecord}
 use Rattle.loop_records.specs.Record.{noLoop}
 use Rattle.tables.specs.Corners.{Corners, us, vs}
 use Rattle.loops.specs.Area.{areaOf}
-use Rattle.measuring.specs.Loops.{wrapAlong, signOf, recordOf, recordsFrom}
+use Rattle.loops.specs.Wrap.{netWrap}
+use Rattle.loop_records.specs.Loops.{wrapAlong, signOf, recordOf, recordsFrom}
+
+-- ---- a wrap, from the period
+
+pub wrap-every : (us : List Float) (period : Period) (p : Float) (r : ℤ) → period ≡ Every p → r ≡ netWrap us p → r ≡ wrapAlong period us
+wrap-every us period p r e w = w ∙ sym (ap (λ (q : Period). wrapAlong q us) e)
+
+pub wrap-none : (us : List Float) (period : Period) → period ≡ None → pos 0 ≡ wrapAlong period us
+wrap-none us period e = sym (ap (λ (q : Period). wrapAlong q us) e)
 
 -- ---- the sign of a wrap, from the two tests
 
@@ -99,13 +109,13 @@ module _ (period : Period) (ns : List ℕ) (xs : Corners Vec3) (d₀ : List Loop
   pub recording : length ns ≤ length d₀ → Recording d₀ 0 0
   recording h = let l = length-wanted in record { at = cutting ns xs; rest = refl; fill = front wanted d₀ (omega arith) }
 
-  pub recording-turn : (d d′ : List LoopRecord) (from to i : ℕ) (b : LoopRecord) → Recording d from i → i < length ns → to ≡ min (from + getD ns i 0) (length xs)
-      → b ≡ recordOf period from (take (to - from) (drop from xs)) → d′ ≡ set d i b → Recording d′ to (i + 1)
-  recording-turn d d′ from to i b k h e b-is put = record {
+  pub recording-turn : (d d′ : List LoopRecord) (from to i : ℕ) → Recording d from i → i < length ns → to ≡ min (from + getD ns i 0) (length xs)
+      → d′ ≡ set d i (recordOf period from (take (to - from) (drop from xs))) → Recording d′ to (i + 1)
+  recording-turn d d′ from to i k h e put = record {
     at = cutting-turn ns xs from to i (k .at) h e;
     rest = rw (add-one i) (ap (drop 1) cut ∙ ap (λ (n : ℕ). recordsFrom period n (drop (suc i) (pieces ns xs))) end);
-    fill = rw put (front-turn wanted d₀ d i b noLoop (k .fill) (let l = length-wanted in omega arith)
-        (b-is ∙ ap (recordOf period from) (sym piece) ∙ sym (ap (λ (l : List LoopRecord). getD l 0 noLoop) cut)));
+    fill = rw put (front-turn wanted d₀ d i _ noLoop (k .fill) (let l = length-wanted in omega arith)
+        (ap (recordOf period from) (sym piece) ∙ sym (ap (λ (l : List LoopRecord). getD l 0 noLoop) cut)));
   }
     where
       here : Corners Vec3

@@ -1,7 +1,7 @@
-use Rattle.measuring.proofs.Measured.{wrap-every, wrap-none}
+use Rattle.loop_records.proofs.Recorded.{wrap-every, wrap-none}
 use borrow.Author.Needs.{needs}
-use Rattle.measuring.proofs.measure.wrap_of.Statement.{statement}
-use Rattle.measuring.proofs.measure.wrap_of.Tie as tie
+use Rattle.loop_records.proofs.measure.wrap_of.Statement.{statement}
+use Rattle.loop_records.proofs.measure.wrap_of.Tie as tie
 
 enum-known-period : tie.Need-enum-known-period
 enum-known-period c = search needs
