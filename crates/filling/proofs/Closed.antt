@@ -1,12 +1,12 @@
 -- The closed path fills the result of a face of which no loop wraps.
-use Prim.Native.Nat.{ℕ, _+_, _≤_, _<_, min}
+use Prim.Native.Nat.{ℕ, _+_, _≤_, _<_}
 use mathlib.Core.Path.{_≡_, refl, sym, ap, _∙_}
 use mathlib.Core.Bool.{cond}
 use mathlib.Core.List.{List, [], _∷_, map, flatten}
 use native.Mathlib.Omega.{arith}
 use lib.Dec.{ltb}
 use lib.Ieee.{Float}
-use lib.ListN.{length, take, drop, replicate, length-map, length-drop}
+use lib.ListN.{length, take, drop, length-map, length-drop}
 use lib.Seq.{length-take-le, take-length}
 use Rattle.numbers.specs.declared.math.Vec3.{Vec3}
 use Rattle.lists.specs.Pieces.{pieces}
@@ -18,27 +18,22 @@ use Rattle.surfaces.specs.Domains.{uPeriod, vPeriod, periodLength}
 use Rattle.tables.specs.Corners.{Corners}
 use Rattle.tables.specs.Rows.{rows}
 use Rattle.tables.proofs.Rows.{length-rows}
-use Rattle.loop_records.specs.declared.LoopRecord.{LoopRecord}
-use Rattle.loop_records.specs.Record.{noLoop}
 use Rattle.regions.specs.Loops.{boxesIn}
 use Rattle.regions.proofs.BoxTable.{length-boxes}
 use Rattle.records.specs.Accepted.{Accepted}
 use Rattle.records.specs.Bytes.{sum}
 use Rattle.records.specs.Face.{loops}
 use Rattle.records.specs.Face as Face
-use Rattle.records.specs.Encodable.{version1-encodable}
-use Rattle.records.specs.Limits.{version1}
 use Rattle.records.specs.Refusals.{passes}
 use Rattle.records.specs.Result.{cornersOf, countOf, areaOf}
 use Rattle.records.proofs.Accepted.{points-sum}
 use Rattle.records.proofs.Columns.{length-counts, length-corners}
+use Rattle.records.specs.Limits.{version1}
+use Rattle.records.specs.Encodable.{version1-encodable}
 use Rattle.results.specs.declared.Path.the-variants.{Closed}
 use Rattle.judgement.specs.Face.{surfaceIn, loopsIn, wrapping, uPeriodIn, vPeriodIn}
 use Rattle.judgement.specs.Paths.{ResultLoop, signedArea, closedLoops, resultLoops}
 use Rattle.judgement.proofs.Written.{result-fine}
-use Rattle.loop_records.specs.Loops.{recordsFrom}
-use Rattle.measuring.proofs.Measured.{areas-shown}
-use Rattle.loop_records.proofs.Recorded.{read-out}
 use Rattle.closed_face.specs.First.{partFirst}
 use Rattle.closed_face.specs.Face.{outerFound, rowsThen, areasLeft, IsFace}
 use Rattle.closed_face.proofs.first.Laws.{length-first}
@@ -72,25 +67,11 @@ module _ (s : List ℕ) (a : Accepted version1 s) (some : 0 < loops s) (none : w
   whole : given ≡ map length (pieces given r)
   whole = sym (lengths-pieces given r (ap sum given-is ∙ sym (points-sum s) ∙ sym (length-corners s) ∙ ap length (sym r-is)))
 
-  module _ (records : List LoopRecord) (recorded : records ≡ placed 0 (recordsFrom (uPeriod surface) 0 (pieces given r)) (replicate 16 noLoop))
-      (l : ℕ) (l-is : l ≡ min (length given) 16) (m₀ m : List Float) (m-room : length m₀ ≡ 16) (m-is : m ≡ placed 0 (map (λ (one : LoopRecord). one .area) (take l records)) m₀)
-      (m-long : length m ≡ 16) (boxes : List Float) (boxes-long : length boxes ≡ 64) where
-    all-loops : l ≡ length given
-    all-loops = let f = few in omega arith
+  module _ (m : List Float) (m-is : m ≡ map signedArea (pieces given r)) (boxes : List Float) (boxes-long : length boxes ≡ 64) where
+    areas-long : length m ≡ length given
+    areas-long = ap length m-is ∙ length-map (pieces given r) signedArea ∙ length-pieces given r
 
-    measured : take l m ≡ map signedArea (pieces given r)
-    measured =
-        let f = few in
-        let e = all-loops in
-        let put : m ≡ placed 0 (map (λ (one : LoopRecord). one .area) (take (length given) records)) m₀ =
-        m-is ∙ ap (λ (k : ℕ). placed 0 (map (λ (one : LoopRecord). one .area) (take k records)) m₀) e in
-        areas-shown (uPeriod surface) (pieces given r) l m₀ m (e ∙ sym (length-pieces given r)) (omega arith)
-        (read-out (λ (one : LoopRecord). one .area) (uPeriod surface) given r records m₀ m f recorded put)
-
-    areas-long : length (take l m) ≡ length given
-    areas-long = let f = few in let e = all-loops in length-take-le l m (omega arith) ∙ e
-
-    face : IsFace given r (take l m) (length (boxesIn boxes))
+    face : IsFace given r m (length (boxesIn boxes))
     face =
         let f = few in
         let e = counted in
@@ -100,7 +81,7 @@ module _ (s : List ℕ) (a : Accepted version1 s) (some : 0 < loops s) (none : w
           some = omega arith;
           whole = whole;
           an-area-each = omega arith;
-          measured = ap (λ (k : ℕ). take k (take l m)) (sym long) ∙ take-length (take l m) ∙ measured;
+          measured = ap (λ (k : ℕ). take k m) (sym long) ∙ take-length m ∙ m-is;
           a-box-each = omega arith;
         }
 
@@ -113,18 +94,18 @@ module _ (s : List ℕ) (a : Accepted version1 s) (some : 0 < loops s) (none : w
 
       result-many : length given ≡ length result
       result-many =
-          sym (length-first (outerFound given r (take l m) (length (boxesIn boxes))) 1 given)
-          ∙ ap length (counts-left given r (take l m) (length (boxesIn boxes)) (periodLength u) (periodLength v) face) ∙ length-map result countOf
+          sym (length-first (outerFound given r m (length (boxesIn boxes))) 1 given)
+          ∙ ap length (counts-left given r m (length (boxesIn boxes)) (periodLength u) (periodLength v) face) ∙ length-map result countOf
 
       pub closed-filled : (r′ : Corners Vec3) (a′ t₀ t : List Float) (c₀ c : List ℕ) (x₀ x : List Float)
-          → (let found = outerFound given r (take l m) (length (boxesIn boxes)) in
-          (r′ ≡ rowsThen given r (take l m) (length (boxesIn boxes)) (periodLength u) (periodLength v)) → a′ ≡ areasLeft given r (take l m) (length (boxesIn boxes)) (periodLength u) (periodLength v)
+          → (let found = outerFound given r m (length (boxesIn boxes)) in
+          (r′ ≡ rowsThen given r m (length (boxesIn boxes)) (periodLength u) (periodLength v)) → a′ ≡ areasLeft given r m (length (boxesIn boxes)) (periodLength u) (periodLength v)
           → rows t ≡ placed 0 (flatten (partFirst found 1 (pieces given r′))) (rows t₀)
           → c ≡ cond (ltb found (length given)) (placed 0 (partFirst found 1 given) c₀) c₀
           → x ≡ placed 0 (partFirst found 1 (take (length given) a′)) x₀
           → length t₀ ≡ 7680 → length c₀ ≡ 16 → length x₀ ≡ 16 → FillsTo passes s (Filled Closed (length given)) c x t)
       closed-filled r′ a′ t₀ t c₀ c x₀ x r-then a-left t-is c-is x-is t-room c-room x-room =
-          let left = closed-result given r (take l m) (length (boxesIn boxes)) (periodLength u) (periodLength v) face r′ a′ (rows t₀) (rows t) c₀ c x₀ x r-then a-left t-is c-is x-is in
+          let left = closed-result given r m (length (boxesIn boxes)) (periodLength u) (periodLength v) face r′ a′ (rows t₀) (rows t) c₀ c x₀ x r-then a-left t-is c-is x-is in
           let fine = result-fine version1 version1-encodable s (a .loops-are) (a .total) (λ wraps. absurd (wraps none)) in
           let corners = fine .corners in
           let together : sum (map countOf (resultLoops s)) ≡ length (cornersOf result) = ap (λ (k : List ResultLoop). sum (map countOf k)) (sym result-is) ∙ counts-together result in

@@ -1,8 +1,8 @@
--- The number of a loop that is found, the sign of a travel, the areas of the holes, and both rings.
-use Prim.Native.Nat.{ℕ, _≤_, min}
+-- The number of a loop that is found, the sign of a travel, and both rings.
+use Prim.Native.Nat.{ℕ}
 use mathlib.Core.Path.{_≡_, refl, sym, ap, _∙_}
 use mathlib.Core.Bool.{Bool}
-use mathlib.Core.List.{List, map}
+use mathlib.Core.List.{List}
 use native.Mathlib.Omega.{arith}
 use borrow.Author.Tests.{le-ltb}
 use mir.Syntax.{w32}
@@ -11,17 +11,13 @@ use mir.Facts.{toZ-ofZ}
 use lib.Signed.{ltZ}
 use lib.IntN.{ℤ, pos, negsuc}
 use lib.Ieee.{Float}
-use lib.ListN.{length, take, replicate}
+use lib.ListN.{length, replicate}
 use Rattle.numbers.specs.declared.math.Frame.{Frame}
-use Rattle.numbers.specs.declared.math.Vec3.{Vec3}
 use Rattle.surfaces.specs.declared.options.Resolved.{Resolved}
 use Rattle.surfaces.specs.declared.surface.Surface.{Surface}
 use Rattle.surfaces.specs.Domains.{uPeriod}
-use Rattle.surfaces.specs.declared.surface.Period.{Period}
 use Rattle.lists.specs.Pieces.{pieces}
 use Rattle.lists.specs.Placed.{placed}
-use Rattle.lists.proofs.Pieces.{length-pieces}
-use Rattle.tables.specs.Corners.{Corners}
 use Rattle.tables.specs.Rows.{rows}
 use Rattle.loop_records.specs.declared.LoopRecord.{LoopRecord}
 use Rattle.loop_records.specs.Record.{noLoop}
@@ -36,12 +32,9 @@ use Rattle.records.proofs.Search.{nowhere≢at}
 use Rattle.records.specs.declared.check.Place.{Place}
 use Rattle.records.specs.declared.check.Place.the-variants.{Nowhere, At}
 use Rattle.judgement.specs.Face.{frameIn, surfaceIn, optionsIn, senseIn, wrapping}
-use Rattle.judgement.specs.Paths.{signedArea}
 use Rattle.loop_records.specs.Loops.{recordsFrom}
 use Rattle.measuring.specs.Loops.{wrapsIn}
 use Rattle.measuring.specs.Refusals.{wrapsAt, lastWhere}
-use Rattle.measuring.proofs.Measured.{areas-shown}
-use Rattle.loop_records.proofs.Recorded.{read-out}
 use Rattle.holes.specs.Others.{others}
 use Rattle.filling.specs.Band.{BandFace}
 use Rattle.filling.proofs.TwoRings.{some-first, some-last}
@@ -60,16 +53,8 @@ pub falls-by : (z : ℤ) → SFits w32 z → ltZ (toZ w32 (ofZ w32 z)) (pos 0) �
 falls-by z f = ap (λ (x : ℤ). ltZ x (pos 0)) (toZ-ofZ f) ∙ negative z
 
 -- the areas that are picked are those of the loops
-pub areas-put : (period : Period) (ns : List ℕ) (corners : Corners Vec3) (loops : List LoopRecord) (m₀ m : List Float) (l a b : ℕ) (dst dst′ : List Float) → l ≡ min (length ns) 16 → length m₀ ≡ 16
-    → m ≡ placed 0 (map (λ (r : LoopRecord). r .area) (take l loops)) m₀ → dst′ ≡ placed 1 (others a b (take l m)) dst
-    → length ns ≤ 16 → loops ≡ placed 0 (recordsFrom period 0 (pieces ns corners)) (replicate 16 noLoop)
-    → dst′ ≡ placed 1 (others a b (map signedArea (pieces ns corners))) dst
-areas-put period ns corners loops m₀ m l a b dst dst′ l-is long read put few loops-are =
-    let k = length-pieces ns corners in
-    let all : l ≡ length ns = omega arith in
-    let shown : take l m ≡ map signedArea (pieces ns corners) = areas-shown period (pieces ns corners) l m₀ m (omega arith) (omega arith)
-    (read-out (λ (r : LoopRecord). r .area) period ns corners loops m₀ m few loops-are (read ∙ ap (λ (j : ℕ). placed 0 (map (λ (r : LoopRecord). r .area) (take j loops)) m₀) all)) in
-    put ∙ ap (λ (x : List Float). placed 1 (others a b x) dst) shown
+pub areas-put : (a b : ℕ) (m m′ dst dst′ : List Float) → m ≡ m′ → dst′ ≡ placed 1 (others a b m) dst → dst′ ≡ placed 1 (others a b m′) dst
+areas-put a b m m′ dst dst′ e put = put ∙ ap (λ (x : List Float). placed 1 (others a b x) dst) e
 
 -- ---- both rings are found
 

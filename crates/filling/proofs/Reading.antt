@@ -7,17 +7,17 @@ use native.Mathlib.Omega.{arith}
 use borrow.Author.Tests.{leb-true}
 use lib.Ieee.{Float}
 use lib.ListN.{length, take}
-use lib.Seq.{take-length}
+use lib.Seq.{take-length, length-take-le}
 use Rattle.tables.specs.Rows.{rows}
 use Rattle.tables.proofs.Rows.{length-rows}
 use Rattle.records.specs.declared.read.Read.{Read}
 use Rattle.records.specs.declared.read.Read.the-variants.{Count, Refused}
 use Rattle.records.specs.Accepted.{Accepted}
 use Rattle.records.specs.Bytes.{_≤?_}
-use Rattle.records.specs.Face.{kind, sense, segments, loops, counts, points, needed, cornersIn}
+use Rattle.records.specs.Face.{loops, counts, points, needed, cornersIn}
 use Rattle.records.specs.Lent.{readIf, countsThere, countsFit, pointsFit, CountsRead, HeadRead, CornersRead}
-use Rattle.records.specs.Limits.{version1}
 use Rattle.records.proofs.Columns.{length-counts, length-corners}
+use Rattle.records.specs.Limits.{version1}
 use Rattle.results.proofs.Whole.{and-snd}
 use Rattle.measuring.proofs.ReadLoops.{head-read-back, counts-read-back, corners-read-back}
 use Rattle.filling.specs.Filled.{readMany}
@@ -39,6 +39,10 @@ counts-told s c₀ c r h l l-is =
     let e : l ≡ readMany (readIf (countsFit s (length c₀)) (length (counts s))) = l-is ∙ ap readMany (h .answer) in
     omega arith
 
+-- so are the counts that are read, of that many
+pub counts-many : (s c₀ c : List ℕ) (r : Read) → CountsRead s c₀ c r → length c ≡ length c₀ → (l : ℕ) → l ≡ readMany r → l ≡ length (take l c)
+counts-many s c₀ c r h kept l l-is = let b = counts-told s c₀ c r h l l-is in sym (length-take-le l c (omega arith))
+
 pub corners-told : (s : List ℕ) (t t′ : List Float) (r : Read) → CornersRead s t t′ r → (n : ℕ) → n ≡ readMany r → n ≤ length (rows t)
 unfolding pointsFit
 corners-told s t t′ r h n n-is =
@@ -55,12 +59,11 @@ reals-told s t t′ r h n n-is = let b = corners-told s t t′ r h n n-is in let
 -- ---- a record that is accepted
 
 module _ (s : List ℕ) (a : Accepted version1 s) where
-  pub read-as : (kind′ sense′ segments′ : ℕ) → kind′ ≡ kind s → sense′ ≡ sense s → segments′ ≡ segments s
-      → (h₀ h : List Float) (hr : Read) → HeadRead s h₀ h hr → length h₀ ≡ 13 → length h ≡ 13
+  pub read-as : (h₀ h : List Float) (hr : Read) → HeadRead s h₀ h hr → length h₀ ≡ 13 → length h ≡ 13
       → (c₀ c : List ℕ) (r : Read) → CountsRead s c₀ c r → length c₀ ≡ 16 → (l : ℕ) → l ≡ readMany r
       → (t t′ : List Float) (q : Read) → CornersRead s t t′ q → length t ≡ 2560 → (n : ℕ) → n ≡ readMany q
-      → ReadAs s kind′ sense′ segments′ h (take l c) (take (5 * n) t′)
-  read-as kind′ sense′ segments′ kind-is sense-is segments-are h₀ h hr hs h-room h-long c₀ c r cs c-room l l-is t t′ q ts t-room n n-is =
+      → ReadAs s h (take l c) (take (5 * n) t′)
+  read-as h₀ h hr hs h-room h-long c₀ c r cs c-room l l-is t t′ q ts t-room n n-is =
       let few = a .loops-are in
       let total = a .total in
       let whole = length-rows t in
@@ -69,9 +72,6 @@ module _ (s : List ℕ) (a : Accepted version1 s) where
       let many : l ≡ loops s = l-is ∙ ap readMany (of-counts .1) in
       let far : n ≡ points s = n-is ∙ ap readMany (of-corners .1) in
       record {
-        kind-is = kind-is;
-        sense-is = sense-is;
-        segments-are = segments-are;
         head-is = sym (ap (λ (k : ℕ). take k h) (sym h-long) ∙ take-length h) ∙ head-read-back s a h₀ h hr hs (omega arith);
         counts-are = ap (λ (k : ℕ). take k c) many ∙ of-counts .0;
         corners-are = ap (λ (k : ℕ). rows (take (5 * k) t′)) far ∙ of-corners .0;

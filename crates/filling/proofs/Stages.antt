@@ -1,5 +1,5 @@
 -- A list of conditions judged in two parts, and the path of a face that the refusals 8 to 11 let pass.
-use Prim.Native.Nat.{ℕ, _≤_, _<_, min}
+use Prim.Native.Nat.{ℕ, _≤_, _<_}
 use mathlib.Core.Path.{_≡_, refl, sym, ap, _∙_, subst}
 use mathlib.Core.List.{List, [], _∷_, _++_, map}
 use native.Mathlib.Omega.{arith}
@@ -23,12 +23,14 @@ use Rattle.loop_records.specs.Record.{noLoop}
 use Rattle.records.specs.Accepted.{Accepted}
 use Rattle.records.specs.Bytes.{_=?_}
 use Rattle.records.specs.Face.{loops}
-use Rattle.records.specs.Limits.{version1}
+use Rattle.records.specs.Face as Record
 use Rattle.records.specs.Refusals.{Place, nowhere, at, Condition, Verdict, passes, refuses, refuseAt, verdict, recordConditions}
 use Rattle.records.proofs.Accepted.{accepted-exactly}
 use Rattle.records.proofs.Columns.{length-counts}
 use Rattle.records.proofs.Refused.{verdict-passes}
+use Rattle.records.specs.Limits.{version1}
 use Rattle.judgement.specs.Face.{surfaceOf, measuredIn, isWrapping, wrapping, surfaceIn, frameIn, optionsIn, senseIn, loopsIn}
+use Rattle.judgement.specs.Paths.{signedArea}
 use Rattle.judgement.specs.Later.{longStrip, laterConditions}
 use Rattle.judgement.proofs.Demands.{two-wrap}
 use Rattle.judgement.proofs.Loops.{measured-many}
@@ -39,7 +41,7 @@ use Rattle.measuring.specs.Loops.{wrapsIn}
 use Rattle.measuring.specs.Refusals.{wrappingOf}
 use Rattle.measuring.proofs.Heads.{frame-read, surface-read, options-read}
 use Rattle.measuring.proofs.Judged.{wrapping-in}
-use Rattle.measuring.proofs.Measured.{wraps-shown}
+use Rattle.measuring.proofs.Measured.{wraps-shown, areas-shown}
 use Rattle.loop_records.proofs.Recorded.{read-out}
 use Rattle.filling.specs.declared.face.Filled.{Filled}
 use Rattle.filling.specs.declared.face.Filled.the-variants.{Refused}
@@ -96,7 +98,7 @@ accepted-as s found found-is e = accepted-exactly s version1 .0 (sym found-is �
 
 -- ---- the three paths
 
-module _ (s : List ℕ) (a : Accepted version1 s) (kind sense segments : ℕ) (head : List Float) (counts : List ℕ) (t : List Float) (read : ReadAs s kind sense segments head counts t) where
+module _ (s : List ℕ) (a : Accepted version1 s) (head : List Float) (counts : List ℕ) (t : List Float) (read : ReadAs s head counts t) where
   pub counted : length counts ≡ loops s
   counted = ap length (read .counts-are) ∙ length-counts s
 
@@ -128,12 +130,12 @@ module _ (s : List ℕ) (a : Accepted version1 s) (kind sense segments : ℕ) (h
   pub frame-in : (f : Frame) → f ≡ frameAt head → f ≡ frameIn s
   frame-in f e = e ∙ ap frameAt (read .head-is) ∙ frame-read s
 
-  pub options-in : (o : Resolved) → o ≡ optionsAt head segments → o ≡ optionsIn s
-  options-in o e = e ∙ (λ i. optionsAt (read .head-is i) (read .segments-are i)) ∙ options-read s
+  pub options-in : (segments : ℕ) → segments ≡ Record.segments s → (o : Resolved) → o ≡ optionsAt head segments → o ≡ optionsIn s
+  options-in segments segments-are o e = e ∙ (λ i. optionsAt (read .head-is i) (segments-are i)) ∙ options-read s
 
-  pub sense-in : (sense =? 1) ≡ senseIn s
+  pub sense-in : (sense : ℕ) → sense ≡ Record.sense s → (sense =? 1) ≡ senseIn s
   unfolding senseIn
-  sense-in = ap (λ (k : ℕ). k =? 1) (read .sense-is)
+  sense-in sense sense-is = ap (λ (k : ℕ). k =? 1) sense-is
 
   module _ (r : Filled) (counts′ : List ℕ) (areas′ t′ : List Float) (f : FillsTo passes s r counts′ areas′ t′) where
     unwrapped : wrapping s ≡ 0 → FillsTo (verdict stripConditions s) s r counts′ areas′ t′
@@ -158,9 +160,9 @@ module _ (s : List ℕ) (a : Accepted version1 s) (kind sense segments : ℕ) (h
 
   -- ---- the surface, the records and the wraps, as they are measured
 
-  pub surface-in : (x y : Float) → x ≡ getD head 9 nan → y ≡ getD head 10 nan → (surface : Surface) → surface ≡ surfaceOf kind x y → surface ≡ surfaceIn s
-  surface-in x y x-is y-is surface e =
-      e ∙ (λ i. surfaceOf (read .kind-is i) ((x-is ∙ ap (λ (h : List Float). getD h 9 nan) (read .head-is)) i) ((y-is ∙ ap (λ (h : List Float). getD h 10 nan) (read .head-is)) i))
+  pub surface-in : (kind : ℕ) → kind ≡ Record.kind s → (x y : Float) → x ≡ getD head 9 nan → y ≡ getD head 10 nan → (surface : Surface) → surface ≡ surfaceOf kind x y → surface ≡ surfaceIn s
+  surface-in kind kind-is x y x-is y-is surface e =
+      e ∙ (λ i. surfaceOf (kind-is i) ((x-is ∙ ap (λ (h : List Float). getD h 9 nan) (read .head-is)) i) ((y-is ∙ ap (λ (h : List Float). getD h 10 nan) (read .head-is)) i))
       ∙ surface-read s
 
   module _ (surface : Surface) (surface-is : surface ≡ surfaceIn s) (p : Period) (p-is : p ≡ uPeriod surface)
@@ -168,17 +170,19 @@ module _ (s : List ℕ) (a : Accepted version1 s) (kind sense segments : ℕ) (h
     pub records-in : records ≡ placed 0 (recordsFrom (uPeriod surface) 0 (pieces counts (rows t))) (replicate 16 noLoop)
     records-in = recorded ∙ ap (λ (q : Period). placed 0 (recordsFrom q 0 (pieces counts (rows t))) (replicate 16 noLoop)) p-is
 
-    module _ (l : ℕ) (l-is : l ≡ min (length counts) 16) where
-      all-loops : l ≡ length counts
-      all-loops = let f = few-counts in omega arith
+    module _ (l : ℕ) (l-is : l ≡ length counts) where
+      -- what is read out of the records, of each loop: f of its record
+      out : {B : Type 0} (f : LoopRecord → B) (b₀ b : List B) → b ≡ placed 0 (map f (take l records)) b₀ → b ≡ placed 0 (map f (recordsFrom p 0 (pieces counts (rows t)))) b₀
+      out f b₀ b e = read-out f p counts (rows t) records b₀ b few-counts recorded (e ∙ ap (λ (k : ℕ). placed 0 (map f (take k records)) b₀) l-is)
 
       pub wraps-in : (w₀ w : List ℤ) → 16 ≤ length w₀ → w ≡ placed 0 (map (λ (one : LoopRecord). one .wrap) (take l records)) w₀ → take l w ≡ wrapsIn s
       wraps-in w₀ w room e =
           let few = few-counts in
-          let many = all-loops in
-          let put : w ≡ placed 0 (map (λ (one : LoopRecord). one .wrap) (take (length counts) records)) w₀ =
-          e ∙ ap (λ (k : ℕ). placed 0 (map (λ (one : LoopRecord). one .wrap) (take k records)) w₀) many in
-          let out : w ≡ placed 0 (map (λ (one : LoopRecord). one .wrap) (recordsFrom (uPeriod (surfaceIn s)) 0 (pieces counts (rows t)))) w₀ =
-          read-out (λ (one : LoopRecord). one .wrap) p counts (rows t) records w₀ w few recorded put
-          ∙ ap (λ (q : Period). placed 0 (map (λ (one : LoopRecord). one .wrap) (recordsFrom q 0 (pieces counts (rows t)))) w₀) (p-is ∙ ap uPeriod surface-is) in
-          wraps-shown s (pieces counts (rows t)) held l (many ∙ sym (length-pieces counts (rows t))) w₀ w (omega arith) out
+          wraps-shown s (pieces counts (rows t)) held l (l-is ∙ sym (length-pieces counts (rows t))) w₀ w (omega arith)
+          (out (λ (one : LoopRecord). one .wrap) w₀ w e
+          ∙ ap (λ (q : Period). placed 0 (map (λ (one : LoopRecord). one .wrap) (recordsFrom q 0 (pieces counts (rows t)))) w₀) (p-is ∙ ap uPeriod surface-is))
+
+      pub areas-in : (m₀ m : List Float) → 16 ≤ length m₀ → m ≡ placed 0 (map (λ (one : LoopRecord). one .area) (take l records)) m₀ → take l m ≡ map signedArea (pieces counts (rows t))
+      areas-in m₀ m room e =
+          let few = few-counts in
+          areas-shown p (pieces counts (rows t)) l m₀ m (l-is ∙ sym (length-pieces counts (rows t))) (omega arith) (out (λ (one : LoopRecord). one .area) m₀ m e)

@@ -18,10 +18,7 @@ use Rattle.filling.specs.declared.verdict.Verdict.{Verdict as Found}
 use Rattle.filling.specs.declared.verdict.Verdict.the-variants.{Passes, Refuses}
 
 -- the face record s, as it is read
-pub record ReadAs (s : List ℕ) (kind sense segments : ℕ) (head : List Float) (counts : List ℕ) (t : List Float) : Type 0 where
-  pub kind-is : kind ≡ Face.kind s
-  pub sense-is : sense ≡ Face.sense s
-  pub segments-are : segments ≡ Face.segments s
+pub record ReadAs (s : List ℕ) (head : List Float) (counts : List ℕ) (t : List Float) : Type 0 where
   pub head-is : head ≡ Face.head s
   pub counts-are : counts ≡ Face.counts s
   pub corners-are : rows t ≡ cornersIn s

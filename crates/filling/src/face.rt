@@ -1,7 +1,6 @@
 // A face record filled into lent tables.
 ghost use mathlib.Core.Path.{_≡_};
-ghost use mathlib.Core.List.{List, _++_};
-ghost use Prim.Native.Nat.{ℕ};
+ghost use mathlib.Core.List.{_++_, map};
 ghost use lib.ListN.{replicate};
 ghost use Rattle.lists.specs.Pieces.{pieces};
 ghost use Rattle.lists.specs.Placed.{placed};
@@ -9,9 +8,10 @@ ghost use Rattle.tables.specs.Rows.{rows};
 ghost use Rattle.surfaces.specs.Domains.{uPeriod};
 ghost use Rattle.loop_records.specs.Record.{noLoop};
 ghost use Rattle.records.specs.Accepted.{Accepted};
-ghost use Rattle.records.specs.Limits.{version1};
 ghost use Rattle.records.specs.Refusals.{passes, verdict, recordConditions};
+ghost use Rattle.records.specs.Limits.{version1};
 ghost use Rattle.judgement.specs.Face.{surfaceIn};
+ghost use Rattle.judgement.specs.Paths.{signedArea};
 ghost use Rattle.judgement.specs.Later.{laterConditions};
 ghost use Rattle.loop_records.specs.Loops.{recordsFrom};
 ghost use Rattle.measuring.specs.Loops.{wrapsIn};
@@ -24,6 +24,7 @@ use super::rings::check_rings;
 use super::verdict::Verdict;
 use super::verdict::check_record;
 use loop_records::LoopRecord;
+use loop_records::areas_of;
 use loop_records::measure::measure_loops;
 use loop_records::wraps_of;
 use measuring::head::frame_of;
@@ -39,7 +40,6 @@ use records::read::segments;
 use records::read::sense;
 use results::Path;
 use slices::at;
-use slices::shorter;
 use surfaces::surface::Surface;
 
 pub enum Filled {
@@ -51,86 +51,42 @@ pub enum Filled {
 // The path: whole where there are no loops, closed where none wraps, else wrapped. The closed one does
 // not need the frame, which takes roots.
 fn fill_path(
-    sense: u8,
-    segments: u8,
+    face: &[u8],
     head: &[f64],
     given: &[usize],
     corners: &mut [f64],
     loops: [LoopRecord; 16],
     wraps: &[i32],
+    measured: &mut [f64],
+    boxes: &mut [f64; 64],
     surface: Surface,
     t: &mut [f64; 7680],
     counts: &mut [usize; 16],
     areas: &mut [f64; 16],
 ) -> Filled
-    ensures { λ r. ⌜ ((s : List ℕ) (kind : ℕ) → Accepted version1 s → ReadAs s kind sense segments (now (head .entry)) (now (given .entry)) (now (corners .entry))
+    ensures { λ r. ⌜ (Accepted version1 (now (face .entry)) → ReadAs (now (face .entry)) (now (head .entry)) (now (given .entry)) (now (corners .entry))
         → loops ≡ placed 0 (recordsFrom (uPeriod surface) 0 (pieces (now (given .entry)) (rows (now (corners .entry))))) (replicate 16 noLoop)
-        → now (wraps .entry) ≡ wrapsIn s → surface ≡ surfaceIn s → verdict ringConditions s ≡ passes
-        → FillsTo (verdict stripConditions s) s r (now (counts .exit)) (now (areas .exit)) (now (t .exit))) ⌝ }
+        → now (wraps .entry) ≡ wrapsIn (now (face .entry)) → now (measured .entry) ≡ map signedArea (pieces (now (given .entry)) (rows (now (corners .entry))))
+        → surface ≡ surfaceIn (now (face .entry)) → verdict ringConditions (now (face .entry)) ≡ passes
+        → FillsTo (verdict stripConditions (now (face .entry))) (now (face .entry)) r (now (counts .exit)) (now (areas .exit)) (now (t .exit))) ⌝ }
 {
+    let options = options_of(head, segments(face));
     if given.len() == 0 {
-        return fill_whole(
-            surface,
-            frame_of(head),
-            options_of(head, segments),
-            t,
-            counts,
-            areas,
-        );
+        return fill_whole(surface, frame_of(head), options, t, counts, areas);
     }
     if wrapping_count(wraps) == 0 {
-        return fill_closed(corners, given, loops, surface, t, counts, areas);
+        return fill_closed(corners, given, measured, boxes, surface, t, counts, areas);
     }
-    let frame = frame_of(head);
-    let options = options_of(head, segments);
     fill_band(
         corners,
         given,
         loops,
         wraps,
-        frame,
+        measured,
+        frame_of(head),
         surface,
         options,
-        sense == 1,
-        t,
-        counts,
-        areas,
-    )
-}
-
-// A face as it is read: its loops are measured, the refusals 8 to 11 tested, and its path taken,
-// which may refuse by 12.
-fn fill_read(
-    kind: u8,
-    sense: u8,
-    segments: u8,
-    head: &[f64],
-    given: &[usize],
-    corners: &mut [f64],
-    t: &mut [f64; 7680],
-    counts: &mut [usize; 16],
-    areas: &mut [f64; 16],
-) -> Filled
-    ensures { λ r. ⌜ ((s : List ℕ) → Accepted version1 s → ReadAs s kind sense segments (now (head .entry)) (now (given .entry)) (now (corners .entry))
-        → FillsTo (verdict (laterConditions version1) s) s r (now (counts .exit)) (now (areas .exit)) (now (t .exit))) ⌝ }
-{
-    let surface = surface_of(kind, at(head, 9), at(head, 10));
-    let loops = measure_loops(corners, given, surface.u_period());
-    let l = shorter(given.len(), 16);
-    let mut wraps = [0; 16];
-    wraps_of(loops, l, &mut wraps);
-    if let Verdict::Refuses { number, place } = check_rings(kind, corners, given, &wraps[..l]) {
-        return Filled::Refused { number, place };
-    }
-    fill_path(
-        sense,
-        segments,
-        head,
-        given,
-        corners,
-        loops,
-        &wraps[..l],
-        surface,
+        sense(face) == 1,
         t,
         counts,
         areas,
@@ -147,7 +103,8 @@ fn read_many(read: Read) -> usize
     }
 }
 
-// A record that the refusals 2 to 7 let pass.
+// A record that the refusals 2 to 7 let pass: it is read, its loops are measured, the refusals 8 to 11
+// tested, and its path taken, which may refuse by 12.
 fn fill_record(
     face: &[u8],
     t: &mut [f64; 7680],
@@ -159,16 +116,30 @@ fn fill_record(
     let mut head = [0.0; 13];
     let mut given = [0; 16];
     let mut corners = [0.0; 2560];
+    let mut wraps = [0; 16];
+    let mut measured = [0.0; 16];
+    let mut boxes = [0.0; 64];
     read_head(face, &mut head);
     let l = read_many(read_counts(face, &mut given));
     let e = 5 * read_many(read_corners(face, &mut corners));
-    fill_read(
-        kind(face),
-        sense(face),
-        segments(face),
+    let surface = surface_of(kind(face), at(&head, 9), at(&head, 10));
+    let loops = measure_loops(&corners[..e], &given[..l], surface.u_period());
+    wraps_of(loops, l, &mut wraps);
+    areas_of(loops, l, &mut measured);
+    let found = check_rings(kind(face), &corners[..e], &given[..l], &wraps[..l]);
+    if let Verdict::Refuses { number, place } = found {
+        return Filled::Refused { number, place };
+    }
+    fill_path(
+        face,
         &head,
         &given[..l],
         &mut corners[..e],
+        loops,
+        &wraps[..l],
+        &mut measured[..l],
+        &mut boxes,
+        surface,
         t,
         counts,
         areas,

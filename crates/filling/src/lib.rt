@@ -3,7 +3,7 @@
 ghost use mathlib.Core.Path.{_≡_};
 ghost use mathlib.Core.List.{List, map};
 ghost use Prim.Native.Nat.{ℕ, _<_, _+_, _-_, _*_, _≤_, min};
-ghost use lib.ListN.{set, replicate, length, take, drop};
+ghost use lib.ListN.{set, replicate, length};
 ghost use Rattle.lists.specs.Pieces.{pieces};
 ghost use Rattle.lists.specs.Placed.{placed};
 ghost use Rattle.tables.specs.Rows.{rows};
@@ -12,13 +12,11 @@ ghost use Rattle.loop_records.specs.Record.{noLoop};
 ghost use Rattle.records.specs.Accepted.{Accepted};
 ghost use Rattle.records.specs.Face.{loops as loopsOf, counts as countsOf, cornersIn};
 ghost use Rattle.records.specs.Refusals.{passes, verdict, at};
-ghost use Rattle.judgement.specs.Face.{surfaceIn, frameIn, optionsIn, senseIn, loopsIn, wrapping, settingIn, givenIn};
+ghost use Rattle.judgement.specs.Face.{surfaceIn, frameIn, optionsIn, senseIn, wrapping, settingIn, givenIn};
 ghost use Rattle.loop_records.specs.Loops.{recordsFrom};
 ghost use Rattle.measuring.specs.Loops.{wrapsIn};
 ghost use Rattle.filling.specs.Filled.{FillsTo};
 ghost use Rattle.filling.specs.Stages.{stripConditions};
-ghost use Rattle.numbers.specs.declared.math.Vec3.{Vec3};
-ghost use Rattle.tables.specs.Corners.{Corners};
 ghost use Rattle.bands.specs.Given.{falls};
 ghost use Rattle.bands.specs.Columns.{settingOf};
 ghost use Rattle.laying.specs.Held.{givenIn as heldIn};
@@ -37,7 +35,6 @@ use laying::place::lay_rings;
 use laying::reseam::reseam;
 use laying::start::take_start;
 use loop_records::LoopRecord;
-use loop_records::areas_of;
 use loop_records::ring::ring_of;
 use measuring::refusals::first_wrapping;
 use measuring::refusals::last_wrapping;
@@ -94,25 +91,22 @@ fn fill_whole(
 fn fill_closed(
     corners: &mut [f64],
     given: &[usize],
-    loops: [LoopRecord; 16],
+    measured: &mut [f64],
+    boxes: &mut [f64; 64],
     surface: Surface,
     t: &mut [f64; 7680],
     counts: &mut [usize; 16],
     areas: &mut [f64; 16],
 ) -> Filled
     ensures { λ r. ⌜ ((s : List ℕ) → Accepted version1 s → 0 < loopsOf s → wrapping s ≡ 0 → surface ≡ surfaceIn s
-        → now (given .entry) ≡ countsOf s → rows (now (corners .entry)) ≡ cornersIn s → loops ≡ placed 0 (recordsFrom (uPeriod surface) 0 (pieces (now (given .entry)) (rows (now (corners .entry))))) (replicate 16 noLoop)
+        → now (given .entry) ≡ countsOf s → rows (now (corners .entry)) ≡ cornersIn s → now (measured .entry) ≡ map signedArea (pieces (now (given .entry)) (rows (now (corners .entry))))
         → FillsTo passes s r (now (counts .exit)) (now (areas .exit)) (now (t .exit))) ⌝ }
 {
-    let mut measured = [0.0; 16];
-    let mut boxes = [0.0; 64];
-    let l = shorter(given.len(), 16);
-    areas_of(loops, l, &mut measured);
     closed_face(
         corners,
         given,
-        &mut measured[..l],
-        &mut boxes,
+        measured,
+        boxes,
         surface.u_period(),
         surface.v_period(),
         t,
@@ -252,18 +246,6 @@ fn band_of(
     )
 }
 
-// The areas of the holes, as they were measured, into dst from its second place on.
-fn areas_behind(dst: &mut [f64], given: &[usize], loops: [LoopRecord; 16], a: usize, b: usize)
-    ensures { λ _. ⌜ ((period : Period) (corners : Corners Vec3) → length (now (given .entry)) ≤ version1 .loops
-        → loops ≡ placed 0 (recordsFrom period 0 (pieces (now (given .entry)) corners)) (replicate 16 noLoop)
-        → now (dst .exit) ≡ placed 1 (others a b (map signedArea (pieces (now (given .entry)) corners))) (now (dst .entry))) ⌝ }
-{
-    let mut measured = [0.0; 16];
-    let l = shorter(given.len(), 16);
-    areas_of(loops, l, &mut measured);
-    pick_areas(dst, 1, &measured[..l], a, b);
-}
-
 // How many loops a result has, the two rings being one of them.
 fn loops_left(given: usize) -> usize
     ensures { λ r. ⌜ r ≡ given - 1 ⌝ }
@@ -280,6 +262,7 @@ fn fill_band(
     given: &[usize],
     loops: [LoopRecord; 16],
     wraps: &[i32],
+    measured: &[f64],
     frame: Frame,
     surface: Surface,
     options: Resolved,
@@ -290,7 +273,7 @@ fn fill_band(
 ) -> Filled
     ensures { λ r. ⌜ ((s : List ℕ) → Accepted version1 s → wrapping s ≡ 2 → now (given .entry) ≡ countsOf s → rows (now (corners .entry)) ≡ cornersIn s
         → loops ≡ placed 0 (recordsFrom (uPeriod surface) 0 (pieces (now (given .entry)) (rows (now (corners .entry))))) (replicate 16 noLoop)
-        → now (wraps .entry) ≡ wrapsIn s → surface ≡ surfaceIn s → frame ≡ frameIn s → options ≡ optionsIn s → sense ≡ senseIn s
+        → now (wraps .entry) ≡ wrapsIn s → now (measured .entry) ≡ map signedArea (pieces (now (given .entry)) (rows (now (corners .entry)))) → surface ≡ surfaceIn s → frame ≡ frameIn s → options ≡ optionsIn s → sense ≡ senseIn s
         → FillsTo (verdict stripConditions s) s r (now (counts .exit)) (now (areas .exit)) (now (t .exit))) ⌝ }
 {
     let mut holes = [0.0; 2560];
@@ -315,7 +298,7 @@ fn fill_band(
             counts[0] = count;
             pick_counts(counts, 1, given, a, b);
             areas[0] = area;
-            areas_behind(areas, given, loops, a, b);
+            pick_areas(areas, 1, measured, a, b);
             Filled::Face {
                 path: Path::Wrapped,
                 loops: loops_left(given.len()),

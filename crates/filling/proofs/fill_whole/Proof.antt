@@ -2,24 +2,6 @@ use Rattle.filling.proofs.Whole.{whole-filled}
 use borrow.Author.Needs.{needs}
 use Rattle.filling.proofs.fill_whole.Statement.{statement}
 use Rattle.filling.proofs.fill_whole.Tie as tie
-use Rattle.filling.proofs.fill_whole.Reads as reads
-use Rattle.filling.proofs.fill_whole.Lts as lts
-use Rattle.filling.proofs.put_count.Reads as put-count-reads
-use Rattle.slices.proofs.put.Reads as put-reads
-use Rattle.whole.proofs.boundary.full_domain_count.Reads as full-domain-count-reads
-use Rattle.whole.proofs.table.full_domain_loop.Reads as full-domain-loop-reads
-
-full-domain-count-requires : tie.Need-full-domain-count-requires
-full-domain-count-requires c κs = search needs
-
-put-count-requires : tie.Need-put-count-requires
-put-count-requires c κs = search needs
-
-full-domain-loop-requires : tie.Need-full-domain-loop-requires
-full-domain-loop-requires c κs = search needs
-
-put-requires : tie.Need-put-requires
-put-requires c κs = search needs
 
 returns : tie.Need-returns
 returns c = λ s a bare surface-is frame-is options-are.
@@ -30,8 +12,8 @@ pub fill-whole-spec : {M : Type 1} → statement M
 fill-whole-spec =
     tie.close
     (tie.spec
-    full-domain-count-requires
-    put-count-requires
-    full-domain-loop-requires
-    put-requires
+    (λ c κs. search needs)
+    (λ c κs. search needs)
+    (λ c κs. search needs)
+    (λ c κs. search needs)
     returns)
