@@ -8,7 +8,7 @@ use lib.Ieee.Scale.{finite}
 use Rattle.numbers.specs.Rounded.{_⊕_}
 use Rattle.loops.specs.Branch.{branchShift}
 use Rattle.loops.specs.Rings.{turned}
-use Rattle.tables.specs.Corners.{Corner, Corners, us}
+use Rattle.tables.specs.Corners.{Corners, us}
 use Rattle.rings.specs.Choices.{leastU, greatestU, firstOf, stripShift, straddles, firstOpenPast}
 use Rattle.tables.specs.Moves.{unlessZero}
 use Rattle.rings.specs.Starts.{lessU, raised, firstFor, laterFor, start}

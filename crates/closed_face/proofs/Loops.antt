@@ -1,5 +1,5 @@
 -- The loops that stand one behind the other in a list, found again by how many elements stand before them.
-use Prim.Native.Nat.{ℕ, zero, suc, _+_, _-_, _*_, _/_, _≤_, _<_, min}
+use Prim.Native.Nat.{ℕ, zero, suc, _+_, _-_, _*_, _≤_, _<_, min}
 use mathlib.Core.Path.{_≡_, refl, sym, ap, _∙_}
 use mathlib.Core.List.{List, [], _∷_, _++_, map, flatten, append-assoc, append-nil}
 use native.Mathlib.Decide.{decLe}

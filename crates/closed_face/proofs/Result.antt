@@ -1,5 +1,5 @@
 -- What the closed path leaves: for every argument, and for a face the loops that 01 asks for.
-use Prim.Native.Nat.{ℕ, zero, suc, _+_, _≤_, _<_}
+use Prim.Native.Nat.{ℕ, suc, _+_, _≤_, _<_}
 use mathlib.Core.Path.{_≡_, refl, sym, ap, _∙_}
 use mathlib.Core.Bool.{Bool, true, false, cond, _&&_}
 use mathlib.Core.List.{List, [], _∷_, _++_, map, flatten, map-append}
@@ -7,10 +7,9 @@ use native.Mathlib.Numerals.{add-one}
 use native.Mathlib.Omega.{arith}
 use borrow.Author.Tests.{eq-eqb, ne-eqb, lt-ltb, le-leb}
 use lib.Dec.{eqb, leb, ltb}
-use lib.Ieee.{Float, eq}
+use lib.Ieee.{Float}
 use lib.ListN.{length, getD, take, drop, length-append, length-map, take-append-drop}
 use lib.Seq.{split-at, length-take-le}
-use Rattle.numbers.specs.Constants.{plusZero}
 use Rattle.numbers.specs.declared.math.Vec3.{Vec3}
 use Rattle.lists.specs.Pieces.{pieces}
 use Rattle.lists.specs.Placed.{placed}
@@ -18,20 +17,19 @@ use Rattle.lists.proofs.Pieces.{length-pieces}
 use Rattle.lists.proofs.Placed.{placed-fits, front-placed}
 use Rattle.loops.specs.Area.{areaOf}
 use Rattle.loops.specs.Part.{partOf, raised}
-use Rattle.tables.specs.Corners.{Corner, Corners, us, vs, positions, moveU, moveV, cornersFrom}
+use Rattle.tables.specs.Corners.{Corners, us, vs, positions, cornersFrom}
 use Rattle.regions.specs.Loops.{areaIn, boxIn}
 use Rattle.regions.specs.Outer.{outerOf, holesOf}
 use Rattle.regions.specs.Region.{outerAmong}
 use Rattle.regions.specs.Rephase.{Loop, shiftOf, moved, rephased}
-use Rattle.regions.specs.Holes.{wholePeriods, branchIn, shifted, uShift, vShift, inPhase, rephasedCorners, rephasedArea, loopThen, areaThen, loopsThen, areasThen, rephasedRows, rephasedAreas}
+use Rattle.regions.specs.Holes.{wholePeriods, shifted, uShift, vShift, inPhase, rephasedCorners, rephasedArea, loopThen, areaThen, loopsThen, areasThen, rephasedRows, rephasedAreas}
 use Rattle.regions.specs.declared.rephase.Branch.{Branch}
-use Rattle.regions.proofs.MovedHoles.{length-then, length-loops, length-areas}
+use Rattle.regions.proofs.MovedHoles.{length-then, length-areas}
 use Rattle.records.specs.Result.{cornersOf, countOf, areaOf as areaIs}
-use Rattle.judgement.specs.Paths.{ResultLoop, loopOf, signedArea, withArea, boundsOf, outerNumber, outerLoop, branchOf, rephasedHole, closedLoops}
+use Rattle.judgement.specs.Paths.{ResultLoop, loopOf, signedArea, withArea, outerNumber, outerLoop, branchOf, rephasedHole, closedLoops}
 use Rattle.judgement.proofs.Outermost.{outer-below}
 use Rattle.closed_face.specs.First.{partFirst}
 use Rattle.closed_face.specs.Face.{outerFound, rowsThen, areasLeft, IsFace}
-use Rattle.closed_face.proofs.first.Laws.{length-first}
 use Rattle.closed_face.proofs.Loops.{first-between, pieces-again, pieces-fit}
 
 -- ---- the steps of the path, one after the other

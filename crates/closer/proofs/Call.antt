@@ -34,7 +34,7 @@ use Rattle.results.specs.declared.Written.{Written}
 use Rattle.results.specs.Written.{pathOf, WrittenTo}
 use Rattle.filling.specs.declared.face.Filled.{Filled}
 use Rattle.filling.specs.declared.face.Filled.the-variants.{Face, Refused as Refuses}
-use Rattle.filling.specs.Filled.{HoldsResult, pathTaken, filledBy, FillsTo}
+use Rattle.filling.specs.Filled.{HoldsResult, pathTaken, FillsTo}
 use Rattle.closer.specs.declared.Answer.{Answer}
 use Rattle.closer.specs.declared.Answer.the-variants.{Closed, Refused}
 use Rattle.closer.specs.Returned.{answerOf, codeOf, valueOf, bytesWritten, WrittenBytes}

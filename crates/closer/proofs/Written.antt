@@ -2,7 +2,7 @@
 use Prim.Native.Nat.{ℕ, zero, suc, _≤_}
 use mathlib.Core.Path.{_≡_, refl, sym, ap, _∙_}
 use mathlib.Core.Bool.{Bool, true, false, cond}
-use mathlib.Core.List.{List, [], _∷_, _++_, map}
+use mathlib.Core.List.{List, [], _∷_, _++_}
 use native.Mathlib.Omega.{arith}
 use borrow.Author.Tests.{lt-ltb, le-leb}
 use lib.Ieee.{Float}
@@ -29,7 +29,6 @@ use Rattle.judgement.specs.Judge.{result}
 use Rattle.judgement.specs.Later.{stripPoints}
 use Rattle.judgement.specs.Paths.{pathIn, resultLoops, resultIn}
 use Rattle.judgement.proofs.Written.{result-fine, result-writable}
-use Rattle.filling.specs.declared.face.Filled.{Filled}
 use Rattle.filling.specs.declared.face.Filled.the-variants.{Face, Refused as Refuses}
 use Rattle.filling.specs.Filled.{HoldsResult, pathTaken, filledBy}
 use Rattle.closer.specs.declared.Answer.{Answer}

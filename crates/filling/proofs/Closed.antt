@@ -1,5 +1,5 @@
 -- The closed path fills the result of a face of which no loop wraps.
-use Prim.Native.Nat.{ℕ, _+_, _≤_, _<_}
+use Prim.Native.Nat.{ℕ, _≤_, _<_}
 use mathlib.Core.Path.{_≡_, refl, sym, ap, _∙_}
 use mathlib.Core.Bool.{cond}
 use mathlib.Core.List.{List, [], _∷_, map, flatten}
@@ -25,13 +25,13 @@ use Rattle.records.specs.Bytes.{sum}
 use Rattle.records.specs.Face.{loops}
 use Rattle.records.specs.Face as Face
 use Rattle.records.specs.Refusals.{passes}
-use Rattle.records.specs.Result.{cornersOf, countOf, areaOf}
+use Rattle.records.specs.Result.{cornersOf, countOf}
 use Rattle.records.proofs.Accepted.{points-sum}
 use Rattle.records.proofs.Columns.{length-counts, length-corners}
 use Rattle.records.specs.Limits.{version1}
 use Rattle.records.specs.Encodable.{version1-encodable}
 use Rattle.results.specs.declared.Path.the-variants.{Closed}
-use Rattle.judgement.specs.Face.{surfaceIn, loopsIn, wrapping, uPeriodIn, vPeriodIn}
+use Rattle.judgement.specs.Face.{surfaceIn, loopsIn, wrapping}
 use Rattle.judgement.specs.Paths.{ResultLoop, signedArea, closedLoops, resultLoops}
 use Rattle.judgement.proofs.Written.{result-fine}
 use Rattle.closed_face.specs.First.{partFirst}

@@ -1,6 +1,6 @@
 -- A record that the check lets pass is read whole into arrays of the limits.
 use Prim.Native.Nat.{ℕ, _*_, _≤_}
-use mathlib.Core.Path.{_≡_, refl, sym, ap, _∙_, subst}
+use mathlib.Core.Path.{_≡_, refl, sym, ap, _∙_}
 use mathlib.Core.Bool.{Bool, true, false}
 use mathlib.Core.List.{List}
 use native.Mathlib.Omega.{arith}
@@ -11,7 +11,6 @@ use lib.Seq.{take-length, length-take-le}
 use Rattle.tables.specs.Rows.{rows}
 use Rattle.tables.proofs.Rows.{length-rows}
 use Rattle.records.specs.declared.read.Read.{Read}
-use Rattle.records.specs.declared.read.Read.the-variants.{Count, Refused}
 use Rattle.records.specs.Accepted.{Accepted}
 use Rattle.records.specs.Bytes.{_≤?_}
 use Rattle.records.specs.Face.{loops, counts, points, needed, cornersIn}

@@ -11,12 +11,10 @@ use Rattle.lists.specs.Pieces.{pieces}
 use Rattle.lists.specs.Placed.{placed}
 use Rattle.lists.proofs.Pieces.{length-pieces}
 use Rattle.numbers.specs.declared.math.Frame.{Frame}
-use Rattle.numbers.specs.declared.math.Vec3.{Vec3}
 use Rattle.surfaces.specs.declared.options.Resolved.{Resolved}
 use Rattle.surfaces.specs.declared.surface.Period.{Period}
 use Rattle.surfaces.specs.declared.surface.Surface.{Surface}
 use Rattle.surfaces.specs.Domains.{uPeriod}
-use Rattle.tables.specs.Corners.{Corners}
 use Rattle.tables.specs.Rows.{rows}
 use Rattle.loop_records.specs.declared.LoopRecord.{LoopRecord}
 use Rattle.loop_records.specs.Record.{noLoop}
@@ -31,7 +29,7 @@ use Rattle.records.proofs.Refused.{verdict-passes}
 use Rattle.records.specs.Limits.{version1}
 use Rattle.judgement.specs.Face.{surfaceOf, measuredIn, isWrapping, wrapping, surfaceIn, frameIn, optionsIn, senseIn, loopsIn}
 use Rattle.judgement.specs.Paths.{signedArea}
-use Rattle.judgement.specs.Later.{longStrip, laterConditions}
+use Rattle.judgement.specs.Later.{longStrip}
 use Rattle.judgement.proofs.Demands.{two-wrap}
 use Rattle.judgement.proofs.Loops.{measured-many}
 use Rattle.judgement.proofs.Sizes.{only-few}

@@ -1,12 +1,11 @@
 -- The whole path fills the result of a face that has no loops.
-use Prim.Native.Nat.{ℕ, _≤_}
+use Prim.Native.Nat.{ℕ}
 use mathlib.Core.Path.{_≡_, refl, sym, ap, _∙_}
-use mathlib.Core.List.{List, [], _∷_, _++_, map, append-nil}
+use mathlib.Core.List.{List, [], _∷_, map, append-nil}
 use native.Mathlib.Omega.{arith}
 use lib.Ieee.{Float}
 use lib.ListN.{length, set, length-map}
 use Rattle.numbers.specs.declared.math.Frame.{Frame}
-use Rattle.numbers.specs.declared.math.Vec2.{Vec2}
 use Rattle.numbers.specs.declared.math.Vec3.{Vec3}
 use Rattle.lists.specs.Placed.{placed}
 use Rattle.surfaces.specs.declared.options.Resolved.{Resolved}
@@ -19,7 +18,7 @@ use Rattle.whole.specs.Table.{placedCorner, wholeRows}
 use Rattle.whole.proofs.boundary.Meaning.{few-corners, area-fits}
 use Rattle.records.specs.Face.{loops}
 use Rattle.records.specs.Refusals.{passes}
-use Rattle.records.specs.Result.{cornersOf, countOf, areaOf}
+use Rattle.records.specs.Result.{cornersOf}
 use Rattle.results.specs.declared.Path.the-variants.{Whole}
 use Rattle.judgement.specs.Face.{surfaceIn, frameIn, optionsIn}
 use Rattle.judgement.specs.Paths.{ResultLoop, loopOf, wholeLoop}

@@ -1,6 +1,6 @@
 -- A place is small: by limits whose results can be encoded four bytes hold each place of the whole call. And of a record that is longer than the longest
 -- acceptable one the answer depends on one byte more than that alone.
-use Prim.Native.Nat.{ℕ, zero, suc, _^_, _≤_, _<_, suc-le-suc}
+use Prim.Native.Nat.{ℕ, zero, suc, _^_, _<_, suc-le-suc}
 use mathlib.Core.Path.{_≡_, refl, ap, subst}
 use mathlib.Core.Bool.{Bool, true, false}
 use mathlib.Core.List.{List, _++_}

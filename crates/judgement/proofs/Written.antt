@@ -39,7 +39,6 @@ use Rattle.records.specs.Result.{All, none, and, Fits, FitsUv, FitsXyz, Writabl
 use Rattle.records.specs.Result as Result
 use Rattle.records.proofs.Pieces.{writable}
 use Rattle.judgement.specs.Face.{frameIn, surfaceIn, optionsIn, uPeriodIn, vPeriodIn, loopsIn, wrapping, settingIn, givenIn}
-use Rattle.judgement.specs.Face as Face
 use Rattle.judgement.specs.Later.{stripPoints}
 use Rattle.judgement.specs.Paths.{ResultLoop, signedArea, withArea, outerNumber, outerLoop, branchOf, rephasedHole, closedLoops, loopsFrom, wrappedLoops, wholeLoop, uvOf, xyzOf, pathIn, resultLoops, resultIn}
 use Rattle.judgement.proofs.Doubles.{FitsCorners, point-fits, inner-fit, rungs-fit, area-fits, outer-fits, holes-fit}

@@ -1,7 +1,7 @@
 -- What the bytes of a face record mean: the surface, the tolerances and the loops. The sentences are those of 01, "The face record".
 use Prim.Native.Nat.{ℕ, _+_}
 use mathlib.Core.Bool.{Bool, cond}
-use mathlib.Core.List.{List, [], _∷_, map}
+use mathlib.Core.List.{List, map}
 use lib.IntN.{ℤ, pos}
 use lib.ListN.{length}
 use lib.Ieee.{Float}

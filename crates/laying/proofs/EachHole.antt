@@ -1,11 +1,11 @@
 -- Holes moved, tested and measured one after the other, where they stand in one table.
-use Prim.Native.Nat.{ℕ, suc, _+_, _-_, _*_, _/_, _≤_, _<_, min}
+use Prim.Native.Nat.{ℕ, suc, _+_, _-_, _*_, _≤_, _<_, min}
 use mathlib.Core.Path.{_≡_, refl, sym, ap, _∙_}
-use mathlib.Core.Bool.{Bool, true, false, cond, _||_}
+use mathlib.Core.Bool.{Bool, true, false, _||_}
 use mathlib.Core.List.{List, [], _∷_, map}
 use native.Mathlib.Numerals.{add-one}
 use native.Mathlib.Omega.{arith}
-use lib.Ieee.{Float, nan}
+use lib.Ieee.{Float}
 use lib.ListN.{length, getD, set, take, drop, drop-of-length-le}
 use lib.Seq.{drop-cons}
 use Rattle.numbers.specs.declared.math.Vec3.{Vec3}
@@ -23,7 +23,7 @@ use Rattle.tables.proofs.Taking.{count-u}
 use Rattle.rings.specs.Choices.{stripShift, straddles}
 use Rattle.rings.proofs.Lengths.{length-unlessZero}
 use Rattle.seam.specs.Holes.{endOf}
-use Rattle.seam.proofs.EachHole.{Ending, ending, ending-turn, ending-end, no-ending}
+use Rattle.seam.proofs.EachHole.{Ending, ending, ending-turn, ending-end}
 use Rattle.bands.specs.Rings.{onto, anyStraddles}
 use Rattle.rings.specs.Starts.{lessU}
 

@@ -6,7 +6,7 @@ use mathlib.Core.List.{List, [], _∷_, map}
 use borrow.Author.Tests.{lt-leb, le-leb, not-true, not-false}
 use lib.Ieee.{Float, lt}
 use lib.Ieee.Scale.{finite}
-use lib.ListN.{length, take, drop}
+use lib.ListN.{length, drop}
 use Rattle.numbers.specs.Rounded.{_⊕_}
 use Rattle.numbers.specs.declared.math.Vec3.{Vec3}
 use Rattle.lists.specs.Pieces.{pieces, mapPieces}
@@ -18,7 +18,7 @@ use Rattle.tables.specs.declared.moves.Move.the-variants.{Up}
 use Rattle.rings.specs.Choices.{leastU, greatestU, firstOpenPast}
 use Rattle.rings.specs.Turns.{recutAt}
 use Rattle.seam.specs.declared.gap.Gap.{Gap}
-use Rattle.seam.specs.Gap.{Span, spanOf, widestGap, usable}
+use Rattle.seam.specs.Gap.{spanOf, widestGap, usable}
 use Rattle.bands.specs.Rings.{Face, onto, onStrip, anyStraddles, acrossSeam, gapOf, recut, cutAnew, hasStrip, hasGap, reseam}
 use Rattle.rings.specs.Starts.{raised}
 use Rattle.bands.proofs.Recut as Recut

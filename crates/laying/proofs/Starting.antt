@@ -1,11 +1,10 @@
 -- Both rings begun on copies of their columns: each column goes the way of the corners.
 use Prim.Native.Nat.{ℕ, _+_, _-_, _≤_, _<_, min}
 use mathlib.Core.Path.{_≡_, refl, sym, ap, _∙_, subst}
-use mathlib.Core.Bool.{Bool, true, false, cond}
+use mathlib.Core.Bool.{Bool, cond}
 use mathlib.Core.List.{List, map}
 use native.Mathlib.Omega.{arith}
 use borrow.Author.Tests.{lt-ltb, le-ltb}
-use lib.Dec.{ltb}
 use lib.Ieee.{Float, nan}
 use lib.ListN.{length, getD, take, drop, length-map}
 use lib.Seq.{length-take-le}
@@ -17,7 +16,7 @@ use Rattle.loops.specs.Branch.{branchShift}
 use Rattle.loops.specs.Rings.{unchanged}
 use Rattle.tables.specs.Corners.{Corner, Corners, us, vs, xs, ys, zs, moveU}
 use Rattle.tables.specs.Columns.{cornersOf}
-use Rattle.tables.specs.Moves.{movedBy, unlessZero}
+use Rattle.tables.specs.Moves.{movedBy}
 use Rattle.tables.specs.declared.moves.Move.the-variants.{Stay, Up}
 use Rattle.tables.specs.Rows.{rows}
 use Rattle.tables.proofs.Putting.{corners-back}

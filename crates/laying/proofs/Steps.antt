@@ -1,5 +1,5 @@
 -- Both rings laid: each step is the definition's own, with its parts read by calls.
-use mathlib.Core.Path.{_≡_, refl, sym, ap, _∙_, subst}
+use mathlib.Core.Path.{_≡_, sym, ap, _∙_, subst}
 use mathlib.Core.Bool.{Bool, true, false, cond}
 use mathlib.Core.List.{List, [], _∷_, map, reverse}
 use lib.Ieee.{Float, binary64, fits}
@@ -7,7 +7,7 @@ use Rattle.numbers.specs.Rounded.{_⊖_}
 use Rattle.numbers.specs.declared.math.Vec3.{Vec3}
 use Rattle.loops.specs.Branch.{branchShift, LandsNear}
 use Rattle.loops.proofs.Landing.{moved-answer}
-use Rattle.tables.specs.Corners.{Corner, Corners, us, moveU}
+use Rattle.tables.specs.Corners.{Corners, us, moveU}
 use Rattle.tables.specs.Moves.{movedBy}
 use Rattle.tables.specs.declared.moves.Move.the-variants.{Down}
 use Rattle.tables.specs.Rows.{rows}

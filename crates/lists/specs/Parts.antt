@@ -1,7 +1,7 @@
 -- A list changed at a place or in a part.
 use Prim.Native.Nat.{ℕ, _-_}
 use mathlib.Core.List.{List, _++_}
-use lib.ListN.{length, getD, set, take, drop}
+use lib.ListN.{getD, set, take, drop}
 
 module _ {A : Type 0} where
   -- f of the elements from a up to e, with the rest as it was

@@ -7,7 +7,6 @@ use mathlib.Core.Logic.{_↔_}
 use native.Mathlib.Omega.{arith}
 use borrow.Author.Tests.{eq-eqb, eqb-true, ne-eqb, leb-false}
 use lib.Ieee.{Float}
-use lib.IntN.{pos}
 use lib.ListN.{length, getD, drop, length-map}
 use Rattle.numbers.specs.Position.{same}
 use Rattle.numbers.specs.declared.math.Vec2.{Vec2}
@@ -24,13 +23,13 @@ use Rattle.records.specs.Call.{Outcome, refused, closed, code, lentAfter}
 use Rattle.records.specs.Face.{loops, kind}
 use Rattle.records.specs.Encodable.{version1-encodable}
 use Rattle.records.specs.Limits.{version1, cone}
-use Rattle.records.specs.Refusals.{nowhere, NoneHolds}
+use Rattle.records.specs.Refusals.{nowhere}
 use Rattle.records.specs.Result.{Result, encode, loopPositionsOf, decode, cornersOf, resultOf}
 use Rattle.records.proofs.Closing.{closed-accepted, closed-read}
 use Rattle.records.proofs.Search.{when-fails}
-use Rattle.judgement.specs.Demands.{outerPositions, WholeDemand}
+use Rattle.judgement.specs.Demands.{WholeDemand}
 use Rattle.judgement.specs.Face.{frameIn, surfaceOf, surfaceIn, optionsIn, wrapping}
-use Rattle.judgement.specs.Judge.{allConditions, judge}
+use Rattle.judgement.specs.Judge.{judge}
 use Rattle.judgement.specs.Later.{laterConditions, openSurface}
 use Rattle.judgement.specs.Paths.{ResultLoop, uvOf, wholeLoop, pathIn, resultLoops, resultIn}
 use Rattle.judgement.proofs.Demands.{passed, can-be-written, read-loops, written, over-zero}

@@ -8,7 +8,7 @@ use lib.ListN.{length, getD, length-map}
 use Rattle.numbers.specs.Position.{same}
 use Rattle.numbers.specs.declared.math.Vec3.{Vec3}
 use Rattle.loops.specs.Rings.{endsMeet}
-use Rattle.tables.specs.Corners.{Corner, Corners, positions}
+use Rattle.tables.specs.Corners.{Corners, positions}
 use Rattle.bands.specs.Given.{Measured, wraps, only}
 use Rattle.records.specs.Bytes.{_=?_, _<?_}
 use Rattle.records.specs.Face.{kind, loops}

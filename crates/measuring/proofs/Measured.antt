@@ -12,7 +12,7 @@ use Rattle.surfaces.specs.declared.surface.Period.the-variants.{Every, None}
 use Rattle.surfaces.specs.Domains.{uPeriod}
 use Rattle.lists.specs.Placed.{placed}
 use Rattle.lists.proofs.Placed.{front-placed}
-use Rattle.tables.specs.Corners.{Corner, Corners, us}
+use Rattle.tables.specs.Corners.{Corners, us}
 use Rattle.loop_records.specs.declared.LoopRecord.{LoopRecord}
 use Rattle.judgement.specs.Face.{surfaceIn, loopsIn, wrapOf, measuredIn}
 use Rattle.judgement.specs.Paths.{signedArea}

@@ -1,23 +1,23 @@
 -- The conditions 2 to 7 pass exactly the records that `Accepted` describes; and what then holds of the points.
-use mathlib.Core.Path.{_≡_, refl, sym, ap, _∙_, subst}
+use mathlib.Core.Path.{_≡_, refl, sym, ap, _∙_}
 use mathlib.Core.Logic.{_↔_}
-use mathlib.Core.Bool.{Bool, true, false, not, _&&_, _||_, cond, true≢false}
-use mathlib.Core.List.{List, [], _∷_}
+use mathlib.Core.Bool.{Bool, true, false, not, _||_, cond, true≢false}
+use mathlib.Core.List.{List}
 use Prim.Native.Nat.{ℕ, zero, suc, _+_, _-_, _*_, _≤_, _<_}
 use native.Mathlib.Omega.{arith}
 use lib.ListN.{length}
-use lib.Ieee.{Float, le, binary64}
+use lib.Ieee.{binary64}
 use lib.Ieee.Bits.{ofBits-fits}
 use borrow.Author.Tests.{ltb-false, eqb-true, le-ltb, eq-eqb, not-false}
 use Rattle.numbers.specs.declared.math.Vec2.{Vec2}
 use Rattle.numbers.specs.declared.math.Vec3.{Vec3}
-use Rattle.records.specs.Bytes.{_<?_, _=?_, u16At, numberAt, realAt, uvAt, xyzAt, rowAt, sum}
-use Rattle.records.specs.Face.{headerSize, headReals, version, kind, loops, sense, segments, count, counts, start, points, reals, needed, realOf, realPlace, parameters, positions}
+use Rattle.records.specs.Bytes.{_<?_, u16At, numberAt, realAt, uvAt, xyzAt, rowAt, sum}
+use Rattle.records.specs.Face.{headerSize, headReals, version, kind, loops, sense, segments, count, counts, start, points, reals, needed, realPlace, parameters, positions}
 use Rattle.records.specs.declared.limits.Limits.{Limits}
-use Rattle.records.specs.Limits.{minPoints, Range, _to_, finite, holds, uRange, vRange, xyzRange, range}
-use Rattle.records.specs.Refusals.{Place, nowhere, at, when, firstFrom, firstWhere, Verdict, passes, verdict, recordConditions, wrongByte, wrongHeader, tooManyLoops, endsInCounts, tooFewPoints, tooManyPoints, wrongLength, badReal, firstBadReal}
+use Rattle.records.specs.Limits.{minPoints, Range, _to_, holds, uRange, vRange, xyzRange, range}
+use Rattle.records.specs.Refusals.{nowhere, at, firstFrom, firstWhere, passes, verdict, recordConditions, wrongByte, wrongHeader, tooManyLoops, endsInCounts, tooFewPoints, tooManyPoints, wrongLength, badReal, firstBadReal}
 use Rattle.records.specs.Accepted.{Accepted}
-use Rattle.records.specs.Result.{All, none, and, Fits, FitsUv, FitsXyz}
+use Rattle.records.specs.Result.{All, none, Fits, FitsUv, FitsXyz}
 use Rattle.records.proofs.Search.{nowhere≢at, when-fails, first-fails}
 use Rattle.records.proofs.Refused.{verdict-passes}
 use Rattle.records.proofs.Rows.{all-rowAt}

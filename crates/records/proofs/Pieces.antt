@@ -1,14 +1,14 @@
 -- A result that is made of loops: it has as many corners as its counts say, and is read loop by loop.
 use mathlib.Core.Path.{_≡_, refl, sym, ap, _∙_}
-use mathlib.Core.List.{List, [], _∷_, _++_, map, map-append}
+use mathlib.Core.List.{List, [], _∷_, map, map-append}
 use Prim.Native.Nat.{ℕ, _+_, _≤_}
-use lib.ListN.{length, take, drop, length-append, length-map}
+use lib.ListN.{length, length-append, length-map}
 use lib.Seq.{take-at, drop-at}
 use Rattle.lists.specs.Pieces.{pieces}
 use Rattle.numbers.specs.declared.math.Vec2.{Vec2}
 use Rattle.numbers.specs.declared.math.Vec3.{Vec3}
 use Rattle.records.specs.Bytes.{sum}
-use Rattle.records.specs.Result.{Result, All, Short, Fits, FitsUv, FitsXyz, Writable, Loop, cornersOf, countOf, areaOf, resultOf, loopParametersOf, loopPositionsOf}
+use Rattle.records.specs.Result.{All, Short, Fits, FitsUv, FitsXyz, Writable, Loop, cornersOf, countOf, areaOf, resultOf, loopParametersOf, loopPositionsOf}
 
 module _ {C : Type 0} where
   pub sum-counts : (ls : List (Loop C)) → sum (map countOf ls) ≡ length (cornersOf ls)

@@ -1,15 +1,13 @@
 -- A place is small: none is above the length of the longest acceptable record, or above the 255 that a byte can tell of loops.
-use mathlib.Core.Path.{_≡_, refl, sym, ap, _∙_}
+use mathlib.Core.Path.{_≡_}
 use mathlib.Core.Logic.{_⊎_, inl, inr}
-use mathlib.Core.List.{List, []}
-use Prim.Native.Nat.{ℕ, zero, suc, _+_, _*_, _≤_, _<_}
+use mathlib.Core.List.{List}
+use Prim.Native.Nat.{ℕ, zero, suc, _+_, _≤_, _<_}
 use native.Mathlib.Omega.{arith}
 use lib.ListN.{length, getD}
-use borrow.Author.Tests.{ltb-false}
-use Rattle.records.specs.Bytes.{_<?_}
-use Rattle.records.specs.Face.{headerSize, loops, start, points, reals, needed}
+use Rattle.records.specs.Face.{headerSize}
 use Rattle.records.specs.declared.limits.Limits.{Limits}
-use Rattle.records.specs.Refusals.{nowhere, at, refuses, verdict, recordConditions, never, FirstToHold, wrongByte, wrongHeader, tooManyLoops, endsInCounts, tooFewPoints, tooManyPoints, wrongLength, firstBadReal}
+use Rattle.records.specs.Refusals.{nowhere, at, refuses, verdict, recordConditions, never, wrongByte}
 use Rattle.records.proofs.Search.{nowhere≢at, Least}
 use Rattle.records.proofs.Refused.{verdict-refuses, refusal-2, refusal-3, refusal-4, refusal-5, refusal-6-counts, refusal-6-length, refusal-7}
 use Rattle.records.proofs.Prefix.{longest, few-loops, few-points}

@@ -1,8 +1,7 @@
 -- Of a record that is longer than the longest acceptable one, 20,621 bytes in version 1, the answer depends on one byte more than that alone: 2 to 5 look at
 -- the header and the counts, and 6 gives the length needed, not the length found. So a caller need not read further.
 use mathlib.Core.Path.{_≡_, refl, sym, ap, _∙_}
-use mathlib.Core.Logic.{_⊎_, inl, inr}
-use mathlib.Core.Bool.{Bool, true, false, cond}
+use mathlib.Core.Bool.{Bool, true, false}
 use mathlib.Core.List.{List, [], _∷_, _++_}
 use Prim.Native.Nat.{ℕ, zero, suc, _+_, _*_, _≤_, _<_}
 use native.Mathlib.Omega.{arith}
@@ -10,9 +9,9 @@ use lib.ListN.{length, getD, take, length-take}
 use lib.Seq.{take-all, getD-take}
 use borrow.Author.Tests.{ltb-true, ltb-false, le-ltb, ne-eqb}
 use Rattle.records.specs.Bytes.{_<?_, numberAt, number}
-use Rattle.records.specs.Face.{headerSize, headReals, version, kind, loops, sense, segments, count, start, points, needed}
+use Rattle.records.specs.Face.{headerSize, headReals, loops, count, start, points, needed}
 use Rattle.records.specs.declared.limits.Limits.{Limits}
-use Rattle.records.specs.Refusals.{Place, nowhere, at, firstFrom, firstWhere, Condition, conditions, recordConditions, Verdict, passes, refuses, refuseAt, verdict, tooFewLent, wrongByte, wrongHeader, tooManyLoops, endsInCounts, tooFewPoints, tooManyPoints, wrongLength}
+use Rattle.records.specs.Refusals.{Place, nowhere, at, firstFrom, Condition, recordConditions, Verdict, refuses, refuseAt, verdict, tooFewLent, wrongByte, wrongHeader, tooManyLoops, endsInCounts, tooFewPoints, tooManyPoints, wrongLength}
 use Rattle.records.specs.Call.{Outcome, outcome, judge}
 use Rattle.records.proofs.Search.{when-fails, first-fails}
 use Rattle.records.proofs.Numbers.{numberAt-cons}

@@ -1,13 +1,12 @@
 -- What the reading functions answer: where something is too short nothing is written, and else the slices are filled.
 use mathlib.Core.Path.{_≡_, refl, sym, ap, _∙_}
 use mathlib.Core.Bool.{Bool, true, false, not, _&&_}
-use mathlib.Core.List.{List, map}
-use Prim.Native.Nat.{ℕ, _+_, _*_, min, _≤_, _<_}
+use mathlib.Core.List.{List}
+use Prim.Native.Nat.{ℕ, _+_, _*_, _≤_, _<_}
 use native.Mathlib.Omega.{arith}
-use lib.ListN.{length, length-map}
+use lib.ListN.{length}
 use lib.Ieee.{Float}
 use borrow.Author.Tests.{le-leb, lt-leb, leb-true, leb-false, not-true, not-false}
-use Rattle.records.specs.declared.read.Read.{Read}
 use Rattle.records.specs.declared.read.Read.the-variants.{Count, Refused}
 use Rattle.records.specs.Bytes.{_≤?_, realAt, rowAt}
 use Rattle.records.specs.Face.{headerSize, headReals, loops, counts, head, points, realPlace, needed, cornersIn}

@@ -1,5 +1,5 @@
 -- Refusal 7, as the code looks for it: in three parts, each a loop over the reals from `first` on.
-use mathlib.Core.Path.{_≡_, refl, sym, ap, _∙_}
+use mathlib.Core.Path.{_≡_, sym, ap, _∙_}
 use mathlib.Core.Bool.{Bool, true, false, not}
 use mathlib.Core.List.{List}
 use Prim.Native.Nat.{ℕ, _+_, _*_, _≤_, _<_}
@@ -8,7 +8,7 @@ use lib.Ieee.{Float}
 use Rattle.records.specs.Bytes.{realAt}
 use Rattle.records.specs.Face.{headReals, kind, points, reals, realPlace, realOf}
 use Rattle.records.specs.Limits.{Range, holds, range, headRange, uvRange, xyzRange}
-use Rattle.records.specs.Refusals.{Place, nowhere, at, firstFrom, firstWhere, badReal, firstBadReal}
+use Rattle.records.specs.Refusals.{nowhere, at, firstFrom, badReal, firstBadReal}
 use Rattle.records.specs.Parts.{badFrom}
 use Rattle.records.proofs.Search.{Seeking, seek-start, seek-turn, seek-found, seek-end, first-holds, orElse, split, shifted, shift}
 use Rattle.records.proofs.Ranges.{range-head, range-uv, range-xyz}

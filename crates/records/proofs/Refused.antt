@@ -14,7 +14,7 @@ use Rattle.records.specs.Face.{headerSize, loops, count, start, kind, po
 use Rattle.records.specs.declared.limits.Limits.{Limits}
 use Rattle.records.specs.Limits.{minPoints, holds, range}
 use Rattle.records.specs.Refusals.{Place, nowhere, at, when, firstWhere, Condition, never, conditions, Verdict, passes, refuses, refuseAt, verdict, FirstToHold, NoneHolds, tooFewLent, wrongByte, wrongHeader, tooManyLoops, endsInCounts, tooFewPoints, tooManyPoints, wrongLength, badReal, firstBadReal}
-use Rattle.records.specs.Call.{Outcome, refused, closed, outcome, judge}
+use Rattle.records.specs.Call.{refused, closed, outcome, judge}
 use Rattle.records.proofs.Search.{nowhere≢at, when-holds, Least, first-holds}
 
 -- ---- a list of conditions

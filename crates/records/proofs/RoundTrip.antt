@@ -1,14 +1,12 @@
 -- The reader of result records gives back what was written, every real to the bit, whatever bytes stand behind the record; and the length of a record.
 use mathlib.Core.Path.{_≡_, refl, sym, ap, _∙_}
-use Prim.Native.Nat.{ℕ, zero, suc, _+_, _-_, _*_, _/_, _%_, _^_, _≤_, _<_}
+use Prim.Native.Nat.{ℕ, zero, suc, _+_, _-_, _*_, _/_, _^_, _≤_, _<_}
 use native.Mathlib.Omega.{arith}
 use mathlib.Core.List.{List, [], _∷_, _++_, append-assoc}
-use lib.ListN.{length, take, drop, length-append}
+use lib.ListN.{length, take, length-append}
 use lib.Seq.{take-at, drop-append-seam}
-use lib.Ieee.{Float, binary64, ofBits, toBits}
+use lib.Ieee.{binary64, ofBits, toBits}
 use lib.Ieee.Bits.{ofBits-toBits, toBits-lt}
-use Rattle.numbers.specs.declared.math.Vec2.{Vec2}
-use Rattle.numbers.specs.declared.math.Vec3.{Vec3}
 use Rattle.records.specs.Bytes.{number, numberAt, u16At, realAt, uvAt, xyzAt, rowAt, bytes, u16, real, uv, xyz, row, sum}
 use Rattle.records.specs.declared.limits.Limits.{Limits}
 use Rattle.records.specs.Encodable.{Encodable, mostCorners}

@@ -1,6 +1,6 @@
 -- The call: a face record in, a refusal or the bytes of a result record out.
 use Prim.Native.Nat.{ℕ}
-use mathlib.Core.List.{List, [], _∷_, _++_}
+use mathlib.Core.List.{List, _∷_, _++_}
 use lib.ListN.{length, drop}
 use Rattle.records.specs.declared.limits.Limits.{Limits}
 use Rattle.records.specs.Bytes.{bytes}

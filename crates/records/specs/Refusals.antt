@@ -5,7 +5,7 @@ use Prim.Native.Nat.{ℕ, zero, suc, _+_, _*_, _<_}
 use mathlib.Core.Bool.{Bool, true, false, not, _||_, cond}
 use mathlib.Core.List.{List, [], _∷_, _++_}
 use lib.ListN.{length, getD}
-use Rattle.records.specs.Bytes.{_<?_, _≤?_, _=?_}
+use Rattle.records.specs.Bytes.{_<?_, _=?_}
 use Rattle.records.specs.Face.{headerSize, version, kind, loops, sense, segments, count, start, points, realOf, reals, needed}
 use Rattle.records.specs.declared.limits.Limits.{Limits}
 use Rattle.records.specs.Limits.{minPoints, torus, holds, range}

@@ -6,8 +6,8 @@ use native.Mathlib.Decide.{decLe}
 use native.Mathlib.Numerals.{towards-suc}
 use native.Mathlib.Omega.{arith}
 use lib.Dec.{T}
-use lib.Ieee.{Float, nan, inf, binary64, fits}
-use lib.ListN.{length, getD, set, take, drop, List·getD-eq-default, List·getD-map, length-drop}
+use lib.Ieee.{Float, nan, binary64, fits}
+use lib.ListN.{length, getD, set, take, drop, List·getD-eq-default, length-drop}
 use lib.Seq.{getD-drop, sets, set-out}
 use Rattle.numbers.specs.Order.{minOf, maxOf}
 use Rattle.numbers.specs.declared.math.Vec3.{Vec3}

@@ -6,7 +6,7 @@ use mathlib.Core.List.{List, [], _∷_, _++_, map, flatten, append-assoc, append
 use native.Mathlib.Numerals.{add-one}
 use native.Mathlib.Omega.{arith}
 use borrow.Author.Tests.{eq-eqb, ne-eqb, lt-ltb, le-ltb, le-leb, lt-leb}
-use lib.Dec.{eqb, leb, ltb}
+use lib.Dec.{eqb, ltb}
 use lib.Ieee.{Float, nan, binary64, fits, lt, eq}
 use lib.ListN.{length, getD, set, take, drop, length-append, length-map, length-take, length-drop, take-append-drop}
 use lib.Seq.{take-suc, take-all, drop-at, drop-drop}
@@ -25,7 +25,7 @@ use Rattle.loops.specs.Branch.{LeavesHalf}
 use Rattle.loops.specs.Part.{raised}
 use Rattle.loops.specs.Span.{middleOf}
 use Rattle.loops.proofs.Landing.{half-answer}
-use Rattle.tables.specs.Corners.{Corner, Corners, us, vs, moveU, moveV}
+use Rattle.tables.specs.Corners.{Corners, us, vs, moveU, moveV}
 use Rattle.tables.specs.Moves.{movedBy}
 use Rattle.tables.specs.Rows.{rows}
 use Rattle.tables.specs.declared.moves.Move.the-variants.{Up}

@@ -1,6 +1,6 @@
 -- The outer loop, with room for the boxes and without.
 use Prim.Native.Nat.{ℕ, _*_, _≤_, _<_}
-use mathlib.Core.Path.{_≡_, refl, sym, ap, _∙_}
+use mathlib.Core.Path.{_≡_, sym, ap, _∙_}
 use mathlib.Core.List.{List, map}
 use native.Mathlib.Omega.{arith}
 use lib.Ieee.{Float}
@@ -13,7 +13,6 @@ use Rattle.lists.proofs.Pieces.{length-pieces}
 use Rattle.lists.proofs.Placed.{length-placed, front-placed}
 use Rattle.loops.specs.Part.{partOf}
 use Rattle.tables.specs.Corners.{Corners}
-use Rattle.regions.specs.declared.boxes.Bounds.{Bounds}
 use Rattle.regions.specs.Loops.{boxIn, boxesIn}
 use Rattle.regions.specs.Outer.{outerOf, lastLargest}
 use Rattle.regions.specs.Region.{outerAmong}

@@ -5,7 +5,7 @@ use mathlib.Core.Bool.{Bool, true, cond, _&&_, _||_}
 use mathlib.Core.List.{List, [], _∷_, _++_, foldl}
 use lib.Dec.{eqb}
 use lib.ListN.{length, getD, take, drop}
-use lib.Ieee.{Float, nan, binary64, ofBits, lt, le}
+use lib.Ieee.{Float, nan, lt, le}
 use Rattle.numbers.specs.Constants.{plusZero, 10^-9}
 use Rattle.numbers.specs.Order.{absOf, maxOf}
 use Rattle.numbers.specs.Rounded.{_⊕_, _⊖_, _⊗_}

@@ -1,15 +1,14 @@
 -- What the writer was given is read back from its bytes; and the table that holds the loops of a closed face gives that face's record.
-use mathlib.Core.Path.{_≡_, refl, sym, ap, _∙_}
+use mathlib.Core.Path.{_≡_, refl, sym}
 use mathlib.Core.Bool.{Bool, true, false, _&&_, true≢false}
 use mathlib.Core.List.{List, [], _∷_, map}
 use Prim.Native.Nat.{ℕ, zero, suc, _≤_, _<_}
-use native.Mathlib.Omega.{arith}
 use lib.ListN.{length, take}
 use lib.Ieee.{Float}
 use borrow.Author.Tests.{ltb-true, leb-true}
 use Rattle.numbers.specs.declared.math.Vec3.{Vec3}
 use Rattle.records.specs.Bytes.{_<?_, _≤?_, sum}
-use Rattle.records.specs.Result.{Result, encode, decode, All, none, and, Short, Fits, FitsUv, FitsXyz, Writable, Loop, cornersOf, countOf, areaOf, resultOf}
+use Rattle.records.specs.Result.{encode, decode, All, none, and, Short, Fits, FitsUv, FitsXyz, Writable, Loop, cornersOf, countOf, areaOf, resultOf}
 use Rattle.records.specs.Lent.{filledIf}
 use Rattle.tables.specs.Corners.{Corner, Corners, uvOf, positions}
 use Rattle.tables.specs.Rows.{rows}

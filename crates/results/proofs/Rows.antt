@@ -1,16 +1,16 @@
 -- The rows of a result record while they are stored: counts, reals, and the columns of a table.
-use mathlib.Core.Path.{_≡_, refl, sym, ap, _∙_}
+use mathlib.Core.Path.{_≡_, sym, ap, _∙_}
 use mathlib.Core.List.{List}
 use Prim.Native.Nat.{ℕ, _+_, _-_, _*_, _/_, _≤_, _<_}
 use native.Mathlib.Nat.{mul-le-mul-left}
 use native.Mathlib.Omega.{arith}
-use lib.ListN.{length, getD, take, drop, length-take}
+use lib.ListN.{length, getD, take, drop}
 use lib.Seq.{sets, getD-take, length-take-le}
 use lib.Ieee.{Float, nan, binary64, toBits}
 use Rattle.numbers.specs.declared.math.Vec3.{Vec3}
 use Rattle.records.specs.Bytes.{bytes, u16, real, row}
 use Rattle.records.proofs.RoundTrip.{codes-u16, codes-real}
-use Rattle.tables.specs.Corners.{Corner, Corners}
+use Rattle.tables.specs.Corners.{Corner}
 use Rattle.tables.specs.Rows.{rows, none}
 use Rattle.tables.proofs.Rows.{length-rows}
 use Rattle.results.specs.Written.{columnsOf}

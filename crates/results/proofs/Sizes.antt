@@ -1,17 +1,16 @@
 -- The size of a record from its counts: a loop over the counts, and what the writer may then do.
-use mathlib.Core.Path.{_≡_, refl, sym, ap, _∙_}
-use mathlib.Core.Bool.{Bool, true, false, _&&_, cond}
+use mathlib.Core.Path.{_≡_, refl, ap, _∙_}
+use mathlib.Core.Bool.{true, false}
 use mathlib.Core.List.{List, [], _∷_}
-use Prim.Native.Nat.{ℕ, zero, suc, _+_, _-_, _*_, _≤_, _<_}
+use Prim.Native.Nat.{ℕ, _+_, _-_, _*_, _≤_, _<_}
 use native.Mathlib.Numerals.{add-one}
 use native.Mathlib.Omega.{arith}
 use lib.ListN.{length, getD, drop, drop-of-length-le}
 use lib.Seq.{drop-cons}
 use borrow.Author.Tests.{lt-ltb, le-ltb, le-leb, lt-leb}
-use Rattle.records.specs.Bytes.{_<?_, _≤?_, sum}
-use Rattle.results.specs.declared.Size.{Size}
+use Rattle.records.specs.Bytes.{sum}
 use Rattle.results.specs.declared.Size.the-variants.{Takes, TooLarge}
-use Rattle.results.specs.Written.{allShort, headerHolds, lengthOf, sizeOf}
+use Rattle.results.specs.Written.{allShort, headerHolds, sizeOf}
 
 -- i counts are taken: all are short, and `corners` is their sum
 pub record Summing (counts : List ℕ) (corners i : ℕ) : Type 0 where

@@ -1,12 +1,12 @@
 -- Bytes stored one after another: what is stored, with what remains to be stored, is the whole.
 use mathlib.Core.Path.{_≡_, refl, sym, ap, _∙_}
 use mathlib.Core.List.{List, _++_}
-use Prim.Native.Nat.{ℕ, zero, suc, _+_, _-_, _*_, _/_, _%_, _≤_, _<_}
+use Prim.Native.Nat.{ℕ, suc, _+_, _-_, _*_, _/_, _%_, _≤_, _<_}
 use native.Mathlib.Numerals.{add-one}
 use native.Mathlib.Omega.{arith}
 use lib.ListN.{length, getD, drop, set, length-set, drop-of-length-le}
 use lib.Seq.{sets, length-sets, drop-cons}
-use lib.Ieee.{Float, nan, binary64, toBits}
+use lib.Ieee.{Float, binary64, toBits}
 use Rattle.lists.proofs.Stores.{sets-append}
 use Rattle.records.specs.Bytes.{bytes, real, row}
 

@@ -11,13 +11,12 @@ use Rattle.numbers.specs.declared.math.Vec3.{Vec3}
 use borrow.Author.Tests.{le-leb, lt-leb, leb-true}
 use Rattle.lists.proofs.Stores.{sets-append}
 use Rattle.records.specs.Bytes.{_≤?_, u16, real, uv, xyz, row, sum}
-use Rattle.records.specs.Result.{Result, encode, resultLength}
+use Rattle.records.specs.Result.{encode}
 use Rattle.records.specs.Lent.{front, filledIf}
 use Rattle.records.proofs.RoundTrip.{codes-u16, codes-real, codes-uv, codes-xyz, length-row}
 use Rattle.results.specs.declared.Path.{Path}
 use Rattle.results.specs.declared.Size.{Size}
 use Rattle.results.specs.declared.Size.the-variants.{Takes, TooLarge}
-use Rattle.results.specs.declared.Written.{Written}
 use Rattle.results.specs.declared.Written.the-variants.{Length, Refused}
 use Rattle.results.specs.Written.{pathOf, columnsOf, tableResult, headerHolds, lengthOf, sizeOf, writtenIf, resultFits, Fitting, WrittenTo}
 use Rattle.tables.specs.Corners.{Corner, uvOf, positions}

@@ -1,7 +1,7 @@
 -- Loops that read the u of a table's rows: those of a list, with each element read by a call.
 use Prim.Native.Nat.{ℕ, _+_, _-_, _*_, _≤_, _<_}
-use mathlib.Core.Path.{_≡_, refl, sym, ap, _∙_}
-use mathlib.Core.Bool.{Bool, true, false}
+use mathlib.Core.Path.{_≡_, sym, ap, _∙_}
+use mathlib.Core.Bool.{true, false}
 use mathlib.Core.List.{List, foldl}
 use native.Mathlib.Omega.{arith}
 use lib.Ieee.{Float, nan, le}

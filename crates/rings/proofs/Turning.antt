@@ -6,14 +6,11 @@ use mathlib.Core.Bool.{Bool, true, false, cond, _||_}
 use native.Mathlib.Omega.{arith}
 use borrow.Author.Tests.{lt-ltb, le-ltb, ne-eqb, eqb-false}
 use lib.Dec.{ltb, eqb}
-use lib.Ieee.{Float, ne}
 use lib.ListN.{length, getD, set, take, drop, length-reverse, length-map, length-drop, take-append-drop}
 use lib.Seq.{set-at, length-take-le}
 use Rattle.lists.specs.Parts.{onPart}
 use Rattle.lists.proofs.Parts.{on-part}
-use Rattle.numbers.specs.Constants.{plusZero}
 use Rattle.loops.specs.Rings.{begun, closed, turned, unchanged}
-use Rattle.tables.specs.Moves.{unlessZero}
 use Rattle.rings.specs.Turns.{turnedUnless, recutAt, turnedOnto, alignAt}
 use Rattle.lists.proofs.Elements.{length-dropLast}
 use Rattle.rings.proofs.Lengths.{length-begun}

@@ -2,14 +2,13 @@
 use Prim.Native.Nat.{ℕ, zero, suc, _+_, _-_, _≤_, _<_, min}
 use mathlib.Core.Path.{_≡_, refl, sym, ap, subst, _∙_}
 use mathlib.Core.Bool.{Bool, true, false, cond, not}
-use mathlib.Core.List.{List, [], _∷_, _++_, map, map-append, append-nil, foldl, foldl-append}
+use mathlib.Core.List.{List, [], _∷_, _++_, map, map-append, append-nil, foldl-append}
 use native.Mathlib.Nat.{le-of-suc-le-suc, not-suc-le-zero, zero-add, zero-min, min-zero, suc-min-suc}
 use native.Mathlib.Numerals.{add-one}
 use native.Mathlib.Omega.{arith}
 use borrow.Author.Tests.{eq-eqb, ne-eqb, not-true, not-false}
-use lib.Dec.{eqb}
 use lib.Ieee.{Float, nan, lt, le}
-use lib.ListN.{length, getD, take, drop, length-map, length-take, length-drop, take-append-drop, drop-of-length-le}
+use lib.ListN.{length, getD, take, drop, length-map, length-drop, take-append-drop, drop-of-length-le}
 use lib.Seq.{take-all, take-suc, drop-cons, getD-at, drop-append-add, append-snoc, length-take-le}
 use Rattle.numbers.specs.Constants.{plusZero, half}
 use Rattle.numbers.specs.Order.{maxOf}

@@ -25,7 +25,6 @@ use Rattle.rings.proofs.ByU.{first-by-u, later-by-u, length-firstFor, length-la
 use Rattle.rings.proofs.Decisions.{Seeking, seeking, seeking-turn, seeking-found, seeking-end, serve-backward, few-forward, second-first}
 use Rattle.starts.specs.Search as Answer
 use Rattle.starts.specs.Search.{notSearched, searchWithin}
-use Rattle.starts.specs.declared.trials.Search.{Search}
 
 length-us : (r : Corners Vec3) → length (us r) ≡ length r
 length-us r = length-map r (λ (c : Corner Vec3). c .u)

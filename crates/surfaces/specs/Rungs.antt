@@ -7,7 +7,7 @@ use mathlib.Core.Bool.{Bool, true, cond}
 use mathlib.Core.List.{List, [], _∷_, _++_, dropLast}
 use lib.Dec.{leb}
 use lib.ListN.{length, getD, drop, set}
-use lib.Ieee.{Float, nan, binary64, ofBits, le, ne}
+use lib.Ieee.{Float, nan, le, ne}
 use Rattle.numbers.specs.Constants.{10^-9}
 use Rattle.numbers.specs.Rounded.{_⊕_, _⊖_, _⊗_, _⊘_, count}
 use Rattle.numbers.specs.Order.{absOf}

@@ -5,7 +5,7 @@ use mathlib.Core.List.{List, [], _∷_}
 use native.Mathlib.Omega.{arith}
 use lib.Ieee.{Float}
 use lib.ListN.{length, getD}
-use Rattle.tables.specs.Corners.{Corner, Corners, us, vs, positions, cornersFrom}
+use Rattle.tables.specs.Corners.{Corner, cornersFrom}
 
 module _ {A : Type 0} where
   pub length-from : (ul vl : List Float) (ps : List A) → length ul ≡ length ps → length vl ≡ length ps → length (cornersFrom ul vl ps) ≡ length ps

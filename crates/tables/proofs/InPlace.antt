@@ -1,6 +1,6 @@
 -- Loops over a table in place: its rows go their way, and it stays as long as it was.
 use Prim.Native.Nat.{ℕ, _+_, _-_, _/_, _≤_, _<_}
-use mathlib.Core.Path.{_≡_, refl, sym, ap, _∙_}
+use mathlib.Core.Path.{_≡_, refl, ap, _∙_}
 use mathlib.Core.List.{List, map, reverse}
 use native.Mathlib.Omega.{arith}
 use lib.Ieee.{Float, nan}

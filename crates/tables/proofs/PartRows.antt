@@ -1,19 +1,19 @@
 -- A part of a table that begins and ends with a row: read, changed where it stands, put into another table.
 use Prim.Native.Nat.{ℕ, zero, suc, _+_, _-_, _*_, _/_, _≤_, _<_, min}
 use mathlib.Core.Path.{_≡_, refl, sym, ap, _∙_}
-use mathlib.Core.List.{List, [], _∷_, _++_, map}
+use mathlib.Core.List.{List, [], _++_}
 use native.Mathlib.Omega.{arith}
 use native.Mathlib.Decide.{decLe}
 use lib.Ieee.{Float}
-use lib.ListN.{length, getD, take, drop, length-append, length-take, length-drop, drop-of-length-le, List·getD-eq-default}
-use lib.Seq.{length-take-le, drop-drop, take-length, take-all}
+use lib.ListN.{length, getD, take, drop, length-append, length-drop, drop-of-length-le, List·getD-eq-default}
+use lib.Seq.{length-take-le, take-length, take-all}
 use Rattle.numbers.specs.declared.math.Vec3.{Vec3}
 use Rattle.lists.specs.Parts.{onPart}
 use Rattle.lists.specs.Placed.{placed}
 use Rattle.lists.specs.Pieces.{pieces}
 use Rattle.lists.proofs.Placed.{placed-fits, placed-short}
 use Rattle.lists.proofs.Pieces.{Cutting, cutting, cutting-turn, cutting-piece, length-pieces}
-use Rattle.tables.specs.Corners.{Corner, Corners}
+use Rattle.tables.specs.Corners.{Corners}
 use Rattle.tables.specs.Rows.{rows}
 use Rattle.tables.proofs.Rows.{length-rows, rows-take, rows-drop, rows-part, rows-append}
 

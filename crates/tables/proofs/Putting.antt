@@ -5,12 +5,12 @@ use mathlib.Core.List.{List, [], _∷_}
 use native.Mathlib.Nat.{suc-min-suc}
 use native.Mathlib.Omega.{arith}
 use lib.Ieee.{Float, nan}
-use lib.ListN.{length, getD, set, length-set}
+use lib.ListN.{length, getD, set}
 use Rattle.numbers.specs.declared.math.Vec3.{Vec3}
 use Rattle.lists.specs.Placed.{placed}
 use Rattle.lists.proofs.Filling.{Filling, front, front-turn, filling-end}
 use Rattle.lists.proofs.Placed.{placed-short}
-use Rattle.tables.specs.Corners.{Corner, Corners, us, vs, xs, ys, zs}
+use Rattle.tables.specs.Corners.{Corners, us, vs, xs, ys, zs}
 use Rattle.tables.specs.Columns.{cornersOf}
 use Rattle.tables.specs.Rows.{rows, none}
 

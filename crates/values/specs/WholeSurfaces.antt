@@ -2,8 +2,7 @@
 use mathlib.Core.Path.{_≡_, refl}
 use mathlib.Core.List.{map}
 use lib.IntN.{pos}
-use lib.ListN.{getD}
-use lib.Ieee.{Float, nan, ofBits, ofInt, add, sub, mul, div, neg, lt, le, eq, ne, toUnsigned}
+use lib.Ieee.{Float, ofBits, ofInt, add, sub, mul, div, neg, lt, le, eq, ne, toUnsigned}
 use Rattle.numbers.specs.Constants.{plusZero, H, TAU}
 use Rattle.numbers.specs.Frames.{polarOf}
 use Rattle.numbers.specs.Order.{absOf}

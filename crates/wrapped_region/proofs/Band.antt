@@ -1,6 +1,6 @@
 -- What `close_ordered` closes is the band of bands/specs/Band.antt, where its two rings are those that are joined there.
 use Prim.Native.Nat.{ℕ, _≤_, _<_}
-use mathlib.Core.Path.{_≡_, refl, sym, ap, _∙_}
+use mathlib.Core.Path.{_≡_, refl, _∙_}
 use mathlib.Core.Bool.{Bool, true, false, cond, not}
 use mathlib.Core.List.{map}
 use borrow.Author.Tests.{le-leb, lt-leb}
@@ -8,14 +8,13 @@ use lib.Dec.{leb}
 use lib.ListN.{length, take}
 use Rattle.numbers.specs.declared.math.Vec3.{Vec3}
 use Rattle.loops.specs.Area.{areaOf}
-use Rattle.tables.specs.Corners.{Corner, Corners, us, vs, moveV}
-use Rattle.bands.specs.Given.{Loop, Given}
+use Rattle.tables.specs.Corners.{Corners, us, vs, moveV}
+use Rattle.bands.specs.Given.{Given}
 use Rattle.bands.specs.Rings.{Face}
 use Rattle.bands.specs.Strip.{Setting, strip}
 use Rattle.bands.specs.Band.{firstIsLower, lift, meanV, goesWith, joined, lowerFirst, lowerRing, upperRing, stripOf, outer}
 use Rattle.strip.specs.Closing.{bandBetween, closingOf, closedInto}
 use Rattle.strip.specs.Count.{capped}
-use Rattle.strip.specs.declared.closing.Closing.{Closing}
 use Rattle.strip.specs.declared.closing.Closing.the-variants.{Closed, TooMany}
 use Rattle.strip.proofs.closing.Laws.{band-closed}
 use Rattle.wrapped_region.specs.Ordered.{firstLower, lowerOf, upperOf}

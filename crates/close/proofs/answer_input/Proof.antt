@@ -10,9 +10,6 @@ use Rattle.close.proofs.answer_input.Tie as tie
 slice-aggregate-write-answer : tie.Need-slice-aggregate-write-answer
 slice-aggregate-write-answer c = sym (length-take-le _ _ (c .before .before .pre))
 
-write-answer-requires : tie.Need-write-answer-requires
-write-answer-requires c κs = search needs
-
 returns : tie.Need-returns
 returns c =
     let given = c .before .before .before .before .args in
@@ -26,4 +23,4 @@ returns c =
     (within read old full (answered .0) left, λ input first. of-all read old full (answered .0) left input enough first found)
 
 pub answer-input-spec : {M : Type 1} → statement M
-answer-input-spec = tie.close (tie.spec slice-aggregate-write-answer write-answer-requires returns)
+answer-input-spec = tie.close (tie.spec slice-aggregate-write-answer (λ c κs. search needs) returns)

@@ -9,13 +9,19 @@ use Rattle.filling.proofs.band_of.Statement.{statement}
 use Rattle.filling.proofs.band_of.Tie as tie
 
 slice-aggregate-band-between : tie.Need-slice-aggregate-band-between
-slice-aggregate-band-between c = sym (length-take-le _ _ (let k = c .before .before .before .before .before .before .before .before .before .before .before .before .before .ring-reals .ensures in omega (arith, c .before .before .before .before .before .before .before .before .before .before .before .before .before .before .before .before .before .first2 .given)))
+slice-aggregate-band-between c =
+    sym
+    (length-take-le _ _ (let k = c .before .before .before .before .before .before .before .before .before .before .before .before .before .ring-reals .ensures in omega (arith, c .before .before .before .before .before .before .before .before .before .before .before .before .before .before .before .before .before .first2 .given)))
 
 slice-aggregate-band-between-2 : tie.Need-slice-aggregate-band-between-2
-slice-aggregate-band-between-2 c = sym (length-take-le _ _ (let k = c .before .before .before .before .before .before .before .before .before .before .before .before .before .ring-reals2 .ensures in omega (arith, c .before .before .before .before .before .before .before .before .before .before .before .before .before .before .before .later2 .given)))
+slice-aggregate-band-between-2 c =
+    sym
+    (length-take-le _ _ (let k = c .before .before .before .before .before .before .before .before .before .before .before .before .before .ring-reals2 .ensures in omega (arith, c .before .before .before .before .before .before .before .before .before .before .before .before .before .before .before .later2 .given)))
 
 slice-aggregate-band-between-3 : tie.Need-slice-aggregate-band-between-3
-slice-aggregate-band-between-3 c = sym (length-take-le _ _ (let k = c .before .before .before .before .before .before .shorter .ensures in omega (arith, c .before .before .before .before .before .before .before .before .counts2 .given)))
+slice-aggregate-band-between-3 c =
+    sym
+    (length-take-le _ _ (let k = c .before .before .before .before .before .before .shorter .ensures in omega (arith, c .before .before .before .before .before .before .before .before .counts2 .given)))
 
 returns : tie.Need-returns
 returns c = λ s f room.
@@ -33,29 +39,7 @@ returns c = λ s f room.
 
 pub band-of-spec : {M : Type 1} → statement M
 band-of-spec =
-    tie.close
-    (tie.spec
-    (λ c. search needs)
-    (λ c κs. search needs)
-    (λ c. search needs)
-    (λ c κs. search needs)
-    (λ c κs. search needs)
-    (λ c κs. search needs)
-    (λ c κs. search needs)
-    (λ c. search needs)
-    (λ c κs. search needs)
-    (λ c κs. search needs)
-    (λ c κs. search needs)
-    (λ c κs. search needs)
-    (λ c κs. search needs)
-    (λ c. search needs)
-    slice-aggregate-band-between
-    (λ c. search needs)
-    slice-aggregate-band-between-2
-    (λ c. search needs)
-    slice-aggregate-band-between-3
-    (λ c κs. search needs)
-    (λ c κs. search needs)
-    (λ c κs. search needs)
-    (λ c. search needs)
-    returns)
+    tie.close (tie.spec (λ c. search needs) (λ c κs. search needs) (λ c. search needs) (λ c κs. search needs) (λ c κs. search needs) (λ c κs. search needs)
+    (λ c κs. search needs) (λ c. search needs) (λ c κs. search needs) (λ c κs. search needs) (λ c κs. search needs) (λ c κs. search needs)
+    (λ c κs. search needs) (λ c. search needs) slice-aggregate-band-between (λ c. search needs) slice-aggregate-band-between-2 (λ c. search needs)
+    slice-aggregate-band-between-3 (λ c κs. search needs) (λ c κs. search needs) (λ c κs. search needs) (λ c. search needs) returns)

@@ -11,11 +11,4 @@ returns c = λ s a some none surface-is given-is r-is areas-are.
 
 pub fill-closed-spec : {M : Type 1} → statement M
 fill-closed-spec =
-    tie.close
-    (tie.spec
-    (λ c κs. search needs)
-    (λ c κs. search needs)
-    (λ c κs. search needs)
-    (λ c. search needs)
-    (λ c. search needs)
-    returns)
+    tie.close (tie.spec (λ c κs. search needs) (λ c κs. search needs) (λ c κs. search needs) (λ c. search needs) (λ c. search needs) returns)

@@ -10,10 +10,4 @@ returns c = λ s a bare surface-is frame-is options-are.
 
 pub fill-whole-spec : {M : Type 1} → statement M
 fill-whole-spec =
-    tie.close
-    (tie.spec
-    (λ c κs. search needs)
-    (λ c κs. search needs)
-    (λ c κs. search needs)
-    (λ c κs. search needs)
-    returns)
+    tie.close (tie.spec (λ c κs. search needs) (λ c κs. search needs) (λ c κs. search needs) (λ c κs. search needs) returns)

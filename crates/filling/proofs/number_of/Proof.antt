@@ -3,12 +3,6 @@ use borrow.Author.Needs.{needs}
 use Rattle.filling.proofs.number_of.Statement.{statement}
 use Rattle.filling.proofs.number_of.Tie as tie
 
-enum-known-place : tie.Need-enum-known-place
-enum-known-place c = search needs
-
-enum-told : tie.Need-enum-told
-enum-told c = search needs
-
 returns : tie.Need-returns
 returns c = found-at _ _ (c .before .place .given .1)
 
@@ -16,4 +10,4 @@ returns-2 : tie.Need-returns-2
 returns-2 c = found-none _ (c .enum-told .given .1)
 
 pub number-of-spec : {M : Type 1} → statement M
-number-of-spec = tie.close (tie.spec enum-known-place enum-told returns returns-2)
+number-of-spec = tie.close (tie.spec (λ c. search needs) (λ c. search needs) returns returns-2)

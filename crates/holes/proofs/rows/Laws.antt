@@ -14,7 +14,7 @@ use Rattle.numbers.specs.declared.math.Vec3.{Vec3}
 use Rattle.lists.specs.Pieces.{pieces}
 use Rattle.lists.specs.Placed.{placed}
 use Rattle.lists.proofs.Pieces.{length-pieces, Cutting, cutting, cutting-piece, cutting-turn}
-use Rattle.lists.proofs.Placed.{placed-none, placed-after, placed-short, length-placed}
+use Rattle.lists.proofs.Placed.{placed-none, placed-after, placed-short}
 use Rattle.tables.specs.Corners.{Corners}
 use Rattle.tables.specs.Rows.{rows}
 use Rattle.tables.proofs.Rows.{rows-part}

@@ -37,19 +37,5 @@ returns-2 c = reading-end _ _ _ _ _ _ _ (c .before .loop .inv) (c .loop-test .le
 
 pub areas-of-spec : {M : Type 1} → statement M
 areas-of-spec =
-    tie.close
-    (tie.spec
-    Inv-loop
-    μ-loop
-    (λ c κs. search needs)
-    returns
-    loop-holds
-    (λ c. omega (arith, c .before .loop .inv .few))
-    record-read
-    (λ c. omega (arith, c .before .before .loop .inv .fill .long))
-    slice-write-areas
-    (λ c. omega arith)
-    (λ c. omega arith)
-    loop-again
-    same-length
-    returns-2)
+    tie.close (tie.spec Inv-loop μ-loop (λ c κs. search needs) returns loop-holds (λ c. omega (arith, c .before .loop .inv .few)) record-read
+    (λ c. omega (arith, c .before .before .loop .inv .fill .long)) slice-write-areas (λ c. omega arith) (λ c. omega arith) loop-again same-length returns-2)

@@ -38,19 +38,5 @@ returns-2 c = reading-end _ _ _ _ _ _ _ (c .before .loop .inv) (c .loop-test .le
 
 pub wraps-of-spec : {M : Type 1} → statement M
 wraps-of-spec =
-    tie.close
-    (tie.spec
-    Inv-loop
-    μ-loop
-    (λ c κs. search needs)
-    returns
-    loop-holds
-    (λ c. omega (arith, c .before .loop .inv .few))
-    record-read
-    (λ c. omega arith)
-    slice-set-from-wrap
-    (λ c. omega arith)
-    (λ c. omega arith)
-    loop-again
-    same-length
-    returns-2)
+    tie.close (tie.spec Inv-loop μ-loop (λ c κs. search needs) returns loop-holds (λ c. omega (arith, c .before .loop .inv .few)) record-read (λ c. omega arith)
+    slice-set-from-wrap (λ c. omega arith) (λ c. omega arith) loop-again same-length returns-2)

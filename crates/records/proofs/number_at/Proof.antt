@@ -3,9 +3,6 @@ use borrow.Author.Needs.{needs}
 use Rattle.records.proofs.Numbers as numbers
 use Rattle.records.proofs.number_at.Statement.{statement}
 use Rattle.records.proofs.number_at.Tie as tie
-use Rattle.records.proofs.number_at.Reads as reads
-use Rattle.records.proofs.number_at.Lts as lts
-use Rattle.records.proofs.wide.Reads as wide-reads
 
 abbrev Inv-loop : tie.InvT-loop
 Inv-loop s at w n₀ i₀ n i = numbers.Reading s at w n i
@@ -18,33 +15,18 @@ loop-holds : tie.Need-loop-holds Inv-loop μ-loop
 loop-holds c = numbers.reading-start (c .before .pre .0)
 
 -- src/lib.rt:34:9
-sub-i : tie.Need-sub-i Inv-loop μ-loop
-sub-i c = omega arith
-
 -- src/lib.rt:35:13
 mul-n : tie.Need-mul-n Inv-loop μ-loop
 mul-n c = let k = numbers.room (c .before .loop .inv) (c .loop-test .taken) in omega arith
 
 -- src/lib.rt:35:30
-add-wide : tie.Need-add-wide Inv-loop μ-loop
-add-wide c = omega arith
-
 -- src/lib.rt:35:28
-shared-slice-read-wide : tie.Need-shared-slice-read-wide Inv-loop μ-loop
-shared-slice-read-wide c = omega arith
-
 -- src/lib.rt:35:23
-wide-requires : tie.Need-wide-requires Inv-loop μ-loop
-wide-requires c κs = search needs
-
 -- src/lib.rt:35:13
 add-n : tie.Need-add-n Inv-loop μ-loop
 add-n c = let k = numbers.room (c .before .before .before .loop .inv) (c .before .before .loop-test .taken) in omega arith
 
 -- src/lib.rt:33:5
-loop-less : tie.Need-loop-less Inv-loop μ-loop
-loop-less c = omega arith
-
 -- src/lib.rt:33:5
 loop-again : tie.Need-loop-again Inv-loop μ-loop
 loop-again c = numbers.reading-turn (c .before .before .before .loop .inv) (c .before .before .loop-test .taken) (c .wide .ensures .0) (c .wide .ensures .1)
@@ -55,17 +37,5 @@ returns c = numbers.reading-end (c .before .loop .inv) (c .loop-test .left)
 
 pub number-at-spec : {M : Type 1} → statement M
 number-at-spec =
-    tie.close
-    (tie.spec
-    Inv-loop
-    μ-loop
-    loop-holds
-    sub-i
-    mul-n
-    add-wide
-    shared-slice-read-wide
-    wide-requires
-    add-n
-    loop-less
-    loop-again
-    returns)
+    tie.close (tie.spec Inv-loop μ-loop loop-holds (λ c. omega arith) mul-n (λ c. omega arith) (λ c. omega arith) (λ c κs. search needs) add-n
+    (λ c. omega arith) loop-again returns)

@@ -13,23 +13,8 @@ Inv-loop face l total₀ k₀ total k = counting.Adding face total k × ((l ≡ 
 abbrev μ-loop : tie.MeasureT-loop
 μ-loop face l total₀ k₀ total k = l - k
 
-loops-requires : tie.Need-loops-requires Inv-loop μ-loop
-loops-requires c κs = search needs
-
 loop-holds : tie.Need-loop-holds Inv-loop μ-loop
 loop-holds c = (counting.add-start, c .loops .ensures)
-
-count-at-requires : tie.Need-count-at-requires Inv-loop μ-loop
-count-at-requires c κs = search needs
-
-add-total : tie.Need-add-total Inv-loop μ-loop
-add-total c = omega arith
-
-add-k : tie.Need-add-k Inv-loop μ-loop
-add-k c = omega arith
-
-loop-less : tie.Need-loop-less Inv-loop μ-loop
-loop-less c = omega arith
 
 loop-again : tie.Need-loop-again Inv-loop μ-loop
 loop-again c =
@@ -40,15 +25,5 @@ returns c = (counting.add-end (c .before .loop .inv .0) (omega arith), omega ari
 
 pub points-spec : {M : Type 1} → statement M
 points-spec =
-    tie.close
-    (tie.spec
-    Inv-loop
-    μ-loop
-    loops-requires
-    loop-holds
-    count-at-requires
-    add-total
-    add-k
-    loop-less
-    loop-again
-    returns)
+    tie.close (tie.spec Inv-loop μ-loop (λ c κs. search needs) loop-holds (λ c κs. search needs) (λ c. omega arith) (λ c. omega arith) (λ c. omega arith)
+    loop-again returns)

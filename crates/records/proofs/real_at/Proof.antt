@@ -4,7 +4,6 @@ use Prim.Native.Nat.{ℕ}
 use native.Mathlib.Omega.{arith}
 use lib.Ieee.{Float, nan, inf, fin, binary64, ofBits, ofFields, odd, div}
 use borrow.Author.Needs.{needs}
-use Rattle.numbers.specs.declared.bits.Real.{Real}
 use Rattle.numbers.specs.declared.bits.Real.the-variants.{Value, NotANumber}
 use Rattle.numbers.specs.Bits.{valueOf, realOf}
 use Rattle.records.specs.Bytes.{realAt}
@@ -22,18 +21,6 @@ nan-is nan e = refl
 nan-is (inf s) e = let z : _≡_ {A = ℕ} 0 1 = cc in absurd (omega arith)
 nan-is (fin s m n) e = let z : _≡_ {A = ℕ} 0 1 = cc in absurd (omega arith)
 
-number-at-requires : tie.Need-number-at-requires
-number-at-requires c κs = search needs
-
-from-bits-requires : tie.Need-from-bits-requires
-from-bits-requires c κs = search needs
-
-enum-known-x : tie.Need-enum-known-x
-enum-known-x c = search needs
-
-enum-told : tie.Need-enum-told
-enum-told c = search needs
-
 returns : tie.Need-returns
 unfolding realAt
 returns c =
@@ -48,5 +35,4 @@ returns-2 c =
 
 pub real-at-spec : {M : Type 1} → statement M
 real-at-spec =
-    tie.close
-    (tie.spec number-at-requires from-bits-requires enum-known-x enum-told returns returns-2)
+    tie.close (tie.spec (λ c κs. search needs) (λ c κs. search needs) (λ c. search needs) (λ c. search needs) returns returns-2)

@@ -1,27 +1,16 @@
-use borrow.Author.Needs.{needs}
 use Prim.Native.Nat.{_-_, _*_}
 use mathlib.Core.Path.{_≡_, refl}
 use native.Mathlib.Omega.{arith}
 use lib.ListN.{length-take, length-drop}
-use Rattle.tables.proofs.Rows.{length-rows}
 use Rattle.results.proofs.Rows as rows
 use Rattle.results.proofs.put_columns.Statement.{statement}
 use Rattle.results.proofs.put_columns.Tie as tie
-use Rattle.results.proofs.put_columns.Reads as reads
-use Rattle.results.proofs.put_columns.Lts as lts
-use Rattle.results.proofs.put_reals.Reads as put-reals-reads
 
 abbrev Inv-loop : tie.InvT-loop
 Inv-loop out₀ at t m from to width p₀ i₀ out p i = (width ≡ 8 * (to - from)) × rows.Columns out₀ at t m from to out p i
 
 abbrev μ-loop : tie.MeasureT-loop
 μ-loop out₀ at t m from to width p₀ i₀ out p i = m - i
-
-sub-width : tie.Need-sub-width Inv-loop μ-loop
-sub-width c = omega arith
-
-mul-width : tie.Need-mul-width Inv-loop μ-loop
-mul-width c = omega arith
 
 loop-holds : tie.Need-loop-holds Inv-loop μ-loop
 loop-holds c = (refl, rows.columns-start (c .before .before .pre .0) (c .before .before .pre .1) (c .before .before .pre .2) (c .before .before .pre .3))
@@ -56,14 +45,9 @@ put-reals-requires c κs = let r = c .before .before .before .loop .inv .1 .room
 add-p : tie.Need-add-p Inv-loop μ-loop
 add-p c = let k = rows.columns-inside (c .before .before .before .before .before .before .loop .inv .1) (c .before .before .before .before .before .loop-test .taken) in let l = rows.columns-long (c .before .before .before .before .before .before .loop .inv .1) in omega arith
 
-add-i : tie.Need-add-i Inv-loop μ-loop
-add-i c = omega arith
-
-loop-less : tie.Need-loop-less Inv-loop μ-loop
-loop-less c = omega arith
-
 loop-again : tie.Need-loop-again Inv-loop μ-loop
-loop-again c = (c .before .before .before .before .before .before .loop .inv .0, rw (c .before .before .before .before .before .before .loop .inv .0) (rows.columns-turn (c .before .before .before .before .before .before .loop .inv .1) (c .before .before .before .before .before .loop-test .taken) refl refl (c .before .before .put-reals .ensures)))
+loop-again c =
+    (c .before .before .before .before .before .before .loop .inv .0, rw (c .before .before .before .before .before .before .loop .inv .0) (rows.columns-turn (c .before .before .before .before .before .before .loop .inv .1) (c .before .before .before .before .before .loop-test .taken) refl refl (c .before .before .put-reals .ensures)))
 
 same-length : tie.Need-same-length Inv-loop μ-loop
 same-length c = rows.columns-long (c .before .loop .inv .1)
@@ -73,25 +57,5 @@ returns c = rows.columns-end (c .before .loop .inv .1) (c .loop-test .left)
 
 pub put-columns-spec : {M : Type 1} → statement M
 put-columns-spec =
-    tie.close
-    (tie.spec
-    Inv-loop
-    μ-loop
-    sub-width
-    mul-width
-    loop-holds
-    mul-a
-    add-a
-    mul-e
-    add-e
-    mul-put-reals
-    sub-put-reals
-    part-put-reals-start
-    part-put-reals-end
-    put-reals-requires
-    add-p
-    add-i
-    loop-less
-    loop-again
-    same-length
-    returns)
+    tie.close (tie.spec Inv-loop μ-loop (λ c. omega arith) (λ c. omega arith) loop-holds mul-a add-a mul-e add-e mul-put-reals sub-put-reals
+    part-put-reals-start part-put-reals-end put-reals-requires add-p (λ c. omega arith) (λ c. omega arith) loop-again same-length returns)

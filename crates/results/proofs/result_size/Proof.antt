@@ -21,66 +21,18 @@ returns-2 c = sizes.too-many _ refl (c .before .if1 .left) (c .if2 .taken)
 loop-holds : tie.Need-loop-holds Inv-loop μ-loop
 loop-holds c = (sizes.sum-start, (refl, omega arith))
 
-mul-count : tie.Need-mul-count Inv-loop μ-loop
-mul-count c = omega arith
-
-shared-slice-read-count : tie.Need-shared-slice-read-count Inv-loop μ-loop
-shared-slice-read-count c = omega arith
-
 returns-3 : tie.Need-returns-3 Inv-loop μ-loop
 returns-3 c =
     sizes.too-long _ (c .before .before .before .loop .inv .0) refl (c .before .before .before .before .before .if1 .left) (c .before .before .before .before .if2 .left) (c .before .before .loop-test .taken) (c .if3 .taken)
 
-add-corners : tie.Need-add-corners Inv-loop μ-loop
-add-corners c = omega arith
-
-add-i : tie.Need-add-i Inv-loop μ-loop
-add-i c = omega arith
-
-loop-less : tie.Need-loop-less Inv-loop μ-loop
-loop-less c = omega arith
-
 loop-again : tie.Need-loop-again Inv-loop μ-loop
 loop-again c =
     (sizes.sum-turn _ (c .before .before .before .loop .inv .0) refl (c .before .before .before .before .before .if1 .left) (c .before .before .before .before .if2 .left) (c .before .before .loop-test .taken) (c .if3 .left), c .before .before .before .loop .inv .1)
-
-add-t12 : tie.Need-add-t12 Inv-loop μ-loop
-add-t12 c = omega arith
-
-mul-t13 : tie.Need-mul-t13 Inv-loop μ-loop
-mul-t13 c = omega arith
-
-add-t14 : tie.Need-add-t14 Inv-loop μ-loop
-add-t14 c = omega arith
-
-mul-t15 : tie.Need-mul-t15 Inv-loop μ-loop
-mul-t15 c = omega arith
-
-add-t16 : tie.Need-add-t16 Inv-loop μ-loop
-add-t16 c = omega arith
 
 returns-4 : tie.Need-returns-4 Inv-loop μ-loop
 returns-4 c = sizes.sized _ (c .before .loop .inv .0) refl (c .before .before .before .if1 .left) (c .before .before .if2 .left) (c .loop-test .left)
 
 pub result-size-spec : {M : Type 1} → statement M
 result-size-spec =
-    tie.close
-    (tie.spec
-    Inv-loop
-    μ-loop
-    returns
-    returns-2
-    loop-holds
-    mul-count
-    shared-slice-read-count
-    returns-3
-    add-corners
-    add-i
-    loop-less
-    loop-again
-    add-t12
-    mul-t13
-    add-t14
-    mul-t15
-    add-t16
-    returns-4)
+    tie.close (tie.spec Inv-loop μ-loop returns returns-2 loop-holds (λ c. omega arith) (λ c. omega arith) returns-3 (λ c. omega arith) (λ c. omega arith)
+    (λ c. omega arith) loop-again (λ c. omega arith) (λ c. omega arith) (λ c. omega arith) (λ c. omega arith) (λ c. omega arith) returns-4)

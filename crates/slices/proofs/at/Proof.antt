@@ -6,17 +6,8 @@ use Rattle.slices.proofs.Laws as laws
 use Rattle.slices.proofs.at.Statement.{statement}
 use Rattle.slices.proofs.at.Tie as tie
 
-mul-result : tie.Need-mul-result
-mul-result c = search needs
-
-shared-slice-read-result : tie.Need-shared-slice-read-result
-shared-slice-read-result c = search needs
-
-returns : tie.Need-returns
-returns c = search needs
-
 returns-2 : tie.Need-returns-2
 returns-2 c = laws.nan-is ∙ sym (List·getD-eq-default (c .before .args .s .now) nan (c .if1 .left))
 
 pub at-spec : {M : Type 1} → statement M
-at-spec = tie.close (tie.spec mul-result shared-slice-read-result returns returns-2)
+at-spec = tie.close (tie.spec (λ c. search needs) (λ c. search needs) (λ c. search needs) returns-2)

@@ -1,25 +1,12 @@
 use mathlib.Core.Path.{sym}
 use borrow.Author.Needs.{needs}
-use lib.ListN.{length}
 use lib.Seq.{set-out}
-use borrow.Author.Needs.{needs}
 use Rattle.slices.proofs.put.Statement.{statement}
 use Rattle.slices.proofs.put.Tie as tie
-
-mul-s : tie.Need-mul-s
-mul-s c = search needs
-
-slice-write-s : tie.Need-slice-write-s
-slice-write-s c = search needs
-
-same-length : tie.Need-same-length
-same-length c = search needs
-
-returns : tie.Need-returns
-returns c = search needs
 
 returns-2 : tie.Need-returns-2
 returns-2 c = sym (set-out _ _ _ (c .if1 .left))
 
 pub put-spec : {M : Type 1} → statement M
-put-spec = tie.close (tie.spec mul-s slice-write-s same-length returns returns-2)
+put-spec =
+    tie.close (tie.spec (λ c. search needs) (λ c. search needs) (λ c. search needs) (λ c. search needs) returns-2)

@@ -1,5 +1,5 @@
 -- The count of a strip, on plain numbers.
-use Prim.Native.Nat.{ℕ, _+_, _-_, _*_, _^_, min}
+use Prim.Native.Nat.{ℕ, _+_, _-_}
 use mathlib.Core.Path.{_≡_}
 use native.Mathlib.Omega.{arith}
 use Rattle.strip.specs.Count.{countOf, capped}

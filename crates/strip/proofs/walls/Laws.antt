@@ -1,24 +1,18 @@
 -- The walls of a strip, on plain lists and numbers.
-use Prim.Native.Nat.{ℕ, suc, _+_, _≤_, _<_}
+use Prim.Native.Nat.{ℕ, _+_, _≤_, _<_}
 use mathlib.Core.Path.{_≡_, refl, sym, ap, _∙_}
 use mathlib.Core.Bool.{Bool, true, false, cond}
-use mathlib.Core.List.{List, [], _∷_, _++_, map, reverse}
-use native.Mathlib.Nat.{add-zero}
-use native.Mathlib.Numerals.{add-one}
+use mathlib.Core.List.{List, _++_, reverse}
 use native.Mathlib.Omega.{arith}
-use lib.Ieee.{Float, nan, le}
-use lib.ListN.{length, getD, set, take, drop, length-map, length-reverse}
-use lib.Seq.{sets, sets-eq, length-sets, length-take-le, take-at, drop-at, take-suc, take-all}
+use lib.Ieee.{Float, le}
+use lib.ListN.{length, take, drop, length-reverse}
+use lib.Seq.{sets, sets-eq, take-at, drop-at}
 use Rattle.numbers.specs.Order.{minOf, maxOf}
-use Rattle.numbers.specs.declared.math.Frame.{Frame}
-use Rattle.numbers.specs.declared.math.Vec3.{Vec3}
 use Rattle.surfaces.specs.declared.options.Resolved.{Resolved}
 use Rattle.surfaces.specs.declared.surface.Surface.{Surface}
-use Rattle.surfaces.specs.Points.{pointOf}
 use Rattle.surfaces.specs.Rungs.{rungs, inner}
 use Rattle.surfaces.specs.Steps.{vStepsOf}
 use Rattle.lists.specs.Placed.{placed}
-use Rattle.lists.proofs.Elements.{getD-map}
 use Rattle.lists.proofs.Placed.{placed-fits, placed-short}
 use Rattle.bands.specs.Columns.{ladderOn, heightsOn, heightsKept}
 use Rattle.bands.specs.Strip.{ladder, heights}

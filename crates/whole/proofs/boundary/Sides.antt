@@ -1,6 +1,6 @@
 -- The rungs of each direction and the sides along them: how many there are, and how they are written.
 use Prim.Native.Nat.{ℕ, _+_, _-_, _*_, _≤_, _<_}
-use mathlib.Core.Path.{_≡_, refl, sym, ap, _∙_}
+use mathlib.Core.Path.{_≡_, sym, ap, _∙_}
 use mathlib.Core.Bool.{Bool, true, false}
 use mathlib.Core.List.{List}
 use native.Mathlib.Omega.{arith}

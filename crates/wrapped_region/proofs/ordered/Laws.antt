@@ -2,7 +2,7 @@
 use Prim.Native.Nat.{ℕ}
 use mathlib.Core.Path.{_≡_, refl, sym, ap, _∙_}
 use mathlib.Core.Bool.{Bool, true, false, cond, not}
-use mathlib.Core.List.{List, map}
+use mathlib.Core.List.{map}
 use lib.Ieee.{Float}
 use Rattle.numbers.specs.declared.math.Frame.{Frame}
 use Rattle.numbers.specs.declared.math.Vec3.{Vec3}
@@ -12,7 +12,7 @@ use Rattle.surfaces.specs.declared.surface.Surface.{Surface}
 use Rattle.surfaces.specs.declared.surface.Period.{Period}
 use Rattle.surfaces.specs.declared.surface.Period.the-variants.{Every, None}
 use Rattle.rings.proofs.Carried.{map-unchanged}
-use Rattle.tables.specs.Corners.{Corner, Corners, moveV}
+use Rattle.tables.specs.Corners.{Corners, moveV}
 use Rattle.tables.specs.Moves.{movedBy}
 use Rattle.tables.specs.declared.moves.Move.the-variants.{Up}
 use Rattle.bands.specs.Columns.{settingOf}

@@ -11,12 +11,6 @@ Inv-loop t counts k n m from₀ i₀ from i = Beginning t counts k n m from i
 abbrev μ-loop : tie.MeasureT-loop
 μ-loop t counts k n m from₀ i₀ from i = m - i
 
-count-requires : tie.Need-count-requires Inv-loop μ-loop
-count-requires c κs = search needs
-
-shorter-requires : tie.Need-shorter-requires Inv-loop μ-loop
-shorter-requires c κs = search needs
-
 loop-holds : tie.Need-loop-holds Inv-loop μ-loop
 loop-holds c = beginning _ _ _ _ _ (c .before .count .ensures .0) (c .shorter .ensures)
 
@@ -26,15 +20,6 @@ mul-piece-end c = omega (arith, c .before .loop .inv .least)
 shared-slice-read-piece-end : tie.Need-shared-slice-read-piece-end Inv-loop μ-loop
 shared-slice-read-piece-end c = omega (arith, c .before .before .loop .inv .least)
 
-piece-end-requires : tie.Need-piece-end-requires Inv-loop μ-loop
-piece-end-requires c κs = search needs
-
-add-i : tie.Need-add-i Inv-loop μ-loop
-add-i c = omega arith
-
-loop-less : tie.Need-loop-less Inv-loop μ-loop
-loop-less c = omega arith
-
 loop-again : tie.Need-loop-again Inv-loop μ-loop
 loop-again c = beginning-turn _ _ _ _ _ _ _ (c .before .before .before .loop .inv) _ (c .before .before .loop-test .taken) (c .piece-end .ensures)
 
@@ -43,17 +28,5 @@ returns c = beginning-end _ _ _ _ _ _ _ (c .before .loop .inv) (c .loop-test .le
 
 pub begin-of-spec : {M : Type 1} → statement M
 begin-of-spec =
-    tie.close
-    (tie.spec
-    Inv-loop
-    μ-loop
-    count-requires
-    shorter-requires
-    loop-holds
-    mul-piece-end
-    shared-slice-read-piece-end
-    piece-end-requires
-    add-i
-    loop-less
-    loop-again
-    returns)
+    tie.close (tie.spec Inv-loop μ-loop (λ c κs. search needs) (λ c κs. search needs) loop-holds mul-piece-end shared-slice-read-piece-end
+    (λ c κs. search needs) (λ c. omega arith) (λ c. omega arith) loop-again returns)

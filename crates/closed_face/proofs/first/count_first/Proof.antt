@@ -21,26 +21,11 @@ returns-2 c = laws.no-counts (c .before .before .before .before .args .counts .n
 loop-holds : tie.Need-loop-holds Inv-loop μ-loop
 loop-holds c = laws.moving _ _ _ (c .before .if1 .left) (c .if2 .left)
 
-place-at-requires : tie.Need-place-at-requires Inv-loop μ-loop
-place-at-requires c κs = search needs
-
 mul-dst : tie.Need-mul-dst Inv-loop μ-loop
 mul-dst c = let below = laws.place-below _ _ _ _ (c .before .before .before .before .if1 .left) (c .before .loop-test .taken) (c .place-at .ensures) in omega arith
 
 shared-slice-read-dst : tie.Need-shared-slice-read-dst Inv-loop μ-loop
 shared-slice-read-dst c = let below = laws.place-below _ _ _ _ (c .before .before .before .before .before .if1 .left) (c .before .before .loop-test .taken) (c .before .place-at .ensures) in omega arith
-
-mul-dst-2 : tie.Need-mul-dst-2 Inv-loop μ-loop
-mul-dst-2 c = omega arith
-
-slice-write-dst : tie.Need-slice-write-dst Inv-loop μ-loop
-slice-write-dst c = omega arith
-
-add-j : tie.Need-add-j Inv-loop μ-loop
-add-j c = omega arith
-
-loop-less : tie.Need-loop-less Inv-loop μ-loop
-loop-less c = omega arith
 
 loop-again : tie.Need-loop-again Inv-loop μ-loop
 loop-again c = laws.moving-turn _ _ _ _ _ _ (c .before .before .before .loop .inv) (c .before .before .loop-test .taken) (c .before .place-at .ensures)
@@ -53,20 +38,5 @@ returns-3 c = laws.moving-end _ _ _ _ _ (c .before .loop .inv) (c .loop-test .le
 
 pub count-first-spec : {M : Type 1} → statement M
 count-first-spec =
-    tie.close
-    (tie.spec
-    Inv-loop
-    μ-loop
-    returns
-    returns-2
-    loop-holds
-    place-at-requires
-    mul-dst
-    shared-slice-read-dst
-    mul-dst-2
-    slice-write-dst
-    add-j
-    loop-less
-    loop-again
-    same-length
-    returns-3)
+    tie.close (tie.spec Inv-loop μ-loop returns returns-2 loop-holds (λ c κs. search needs) mul-dst shared-slice-read-dst (λ c. omega arith) (λ c. omega arith)
+    (λ c. omega arith) (λ c. omega arith) loop-again same-length returns-3)

@@ -6,9 +6,6 @@ use Rattle.closed_face.proofs.first.place_at.Tie as tie
 returns : tie.Need-returns
 returns c = laws.place-none _ _ (c .if1 .taken)
 
-sub-result : tie.Need-sub-result
-sub-result c = omega arith
-
 returns-2 : tie.Need-returns-2
 returns-2 c = laws.place-before _ _ (c .before .if1 .left) (c .if2 .taken)
 
@@ -16,4 +13,4 @@ returns-3 : tie.Need-returns-3
 returns-3 c = laws.place-past _ _ (c .before .if1 .left) (c .if2 .left)
 
 pub place-at-spec : {M : Type 1} → statement M
-place-at-spec = tie.close (tie.spec returns sub-result returns-2 returns-3)
+place-at-spec = tie.close (tie.spec returns (λ c. omega arith) returns-2 returns-3)

@@ -6,18 +6,6 @@ use borrow.Author.Needs.{needs}
 use Rattle.closer.proofs.entry.closer_close_face.Statement.{statement}
 use Rattle.closer.proofs.entry.closer_close_face.Tie as tie
 
-close-face-requires : tie.Need-close-face-requires
-close-face-requires c κs = search needs
-
-value-of-requires : tie.Need-value-of-requires
-value-of-requires c κs = search needs
-
-code-of-requires : tie.Need-code-of-requires
-code-of-requires c κs = search needs
-
-same-length : tie.Need-same-length
-same-length c = search needs
-
 returns : tie.Need-returns
 returns c =
     let given = c .before .before .before .before .before .before .before .before .args in
@@ -26,4 +14,4 @@ returns c =
 
 pub closer-close-face-spec : {M : Type 1} → statement M
 closer-close-face-spec =
-    tie.close (tie.spec close-face-requires value-of-requires code-of-requires same-length returns)
+    tie.close (tie.spec (λ c κs. search needs) (λ c κs. search needs) (λ c κs. search needs) (λ c. search needs) returns)

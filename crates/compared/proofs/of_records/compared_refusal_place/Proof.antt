@@ -12,4 +12,5 @@ returns c =
     c .place .ensures ∙ ap placeIn (c .before .check .ensures ∙ ap (λ (L : Limits). verdict (recordConditions L) face) (c .before .before .version1 .ensures))
 
 pub compared-refusal-place-spec : {M : Type 1} → statement M
-compared-refusal-place-spec = tie.close (tie.spec (λ c κs. search needs) (λ c κs. search needs) (λ c κs. search needs) returns)
+compared-refusal-place-spec =
+    tie.close (tie.spec (λ c κs. search needs) (λ c κs. search needs) (λ c κs. search needs) returns)

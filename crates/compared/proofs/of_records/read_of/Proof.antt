@@ -4,12 +4,6 @@ use borrow.Author.Needs.{needs}
 use Rattle.compared.proofs.of_records.read_of.Statement.{statement}
 use Rattle.compared.proofs.of_records.read_of.Tie as tie
 
-enum-known-read : tie.Need-enum-known-read
-enum-known-read c = search needs
-
-enum-told : tie.Need-enum-told
-enum-told c = search needs
-
 returns : tie.Need-returns
 returns c = ap readOf (sym (c .before .read .given .1))
 
@@ -17,4 +11,4 @@ returns-2 : tie.Need-returns-2
 returns-2 c = ap readOf (sym (c .enum-told .given .1))
 
 pub read-of-spec : {M : Type 1} → statement M
-read-of-spec = tie.close (tie.spec enum-known-read enum-told returns returns-2)
+read-of-spec = tie.close (tie.spec (λ c. search needs) (λ c. search needs) returns returns-2)

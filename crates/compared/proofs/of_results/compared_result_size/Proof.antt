@@ -4,14 +4,8 @@ use borrow.Author.Needs.{needs}
 use Rattle.compared.proofs.of_results.compared_result_size.Statement.{statement}
 use Rattle.compared.proofs.of_results.compared_result_size.Tie as tie
 
-result-size-requires : tie.Need-result-size-requires
-result-size-requires c κs = search needs
-
-room-of-requires : tie.Need-room-of-requires
-room-of-requires c κs = search needs
-
 returns : tie.Need-returns
 returns c = c .room-of .ensures ∙ ap roomOf (c .before .result-size .ensures)
 
 pub compared-result-size-spec : {M : Type 1} → statement M
-compared-result-size-spec = tie.close (tie.spec result-size-requires room-of-requires returns)
+compared-result-size-spec = tie.close (tie.spec (λ c κs. search needs) (λ c κs. search needs) returns)

@@ -4,18 +4,6 @@ use borrow.Author.Needs.{needs}
 use Rattle.compared.proofs.of_results.compared_write_result.Statement.{statement}
 use Rattle.compared.proofs.of_results.compared_write_result.Tie as tie
 
-path-from-requires : tie.Need-path-from-requires
-path-from-requires c κs = search needs
-
-write-result-requires : tie.Need-write-result-requires
-write-result-requires c κs = search needs
-
-written-of-requires : tie.Need-written-of-requires
-written-of-requires c κs = search needs
-
-same-length : tie.Need-same-length
-same-length c = search needs
-
 returns : tie.Need-returns
 returns c =
     let called = c .before .before .before in
@@ -24,5 +12,4 @@ returns c =
 
 pub compared-write-result-spec : {M : Type 1} → statement M
 compared-write-result-spec =
-    tie.close
-    (tie.spec path-from-requires write-result-requires written-of-requires same-length returns)
+    tie.close (tie.spec (λ c κs. search needs) (λ c κs. search needs) (λ c κs. search needs) (λ c. search needs) returns)

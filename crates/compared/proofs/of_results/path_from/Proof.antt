@@ -11,14 +11,8 @@ rest zero n₀ n₁ = absurd (n₀ refl)
 rest (suc zero) n₀ n₁ = absurd (n₁ refl)
 rest (suc (suc k)) n₀ n₁ = refl
 
-returns : tie.Need-returns
-returns c = search needs
-
-returns-2 : tie.Need-returns-2
-returns-2 c = search needs
-
 returns-3 : tie.Need-returns-3
 returns-3 c = rest (c .before .args .number) (c .match .rest .0 .1) (c .match .rest .1)
 
 pub path-from-spec : {M : Type 1} → statement M
-path-from-spec = tie.close (tie.spec returns returns-2 returns-3)
+path-from-spec = tie.close (tie.spec (λ c. search needs) (λ c. search needs) returns-3)

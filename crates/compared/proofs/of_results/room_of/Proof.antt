@@ -4,12 +4,6 @@ use borrow.Author.Needs.{needs}
 use Rattle.compared.proofs.of_results.room_of.Statement.{statement}
 use Rattle.compared.proofs.of_results.room_of.Tie as tie
 
-enum-known-size : tie.Need-enum-known-size
-enum-known-size c = search needs
-
-enum-told : tie.Need-enum-told
-enum-told c = search needs
-
 returns : tie.Need-returns
 returns c = ap roomOf (sym (c .before .size .given .1))
 
@@ -17,4 +11,4 @@ returns-2 : tie.Need-returns-2
 returns-2 c = ap roomOf (sym (c .enum-told .given .1))
 
 pub room-of-spec : {M : Type 1} → statement M
-room-of-spec = tie.close (tie.spec enum-known-size enum-told returns returns-2)
+room-of-spec = tie.close (tie.spec (λ c. search needs) (λ c. search needs) returns returns-2)

@@ -4,12 +4,6 @@ use borrow.Author.Needs.{needs}
 use Rattle.compared.proofs.of_results.written_of.Statement.{statement}
 use Rattle.compared.proofs.of_results.written_of.Tie as tie
 
-enum-known-written : tie.Need-enum-known-written
-enum-known-written c = search needs
-
-enum-told : tie.Need-enum-told
-enum-told c = search needs
-
 returns : tie.Need-returns
 returns c = ap writtenOf (sym (c .before .written .given .1))
 
@@ -17,4 +11,4 @@ returns-2 : tie.Need-returns-2
 returns-2 c = ap writtenOf (sym (c .enum-told .given .1))
 
 pub written-of-spec : {M : Type 1} → statement M
-written-of-spec = tie.close (tie.spec enum-known-written enum-told returns returns-2)
+written-of-spec = tie.close (tie.spec (λ c. search needs) (λ c. search needs) returns returns-2)

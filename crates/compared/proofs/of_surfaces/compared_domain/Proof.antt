@@ -5,18 +5,8 @@ use borrow.Author.Needs.{needs}
 use Rattle.compared.proofs.of_surfaces.compared_domain.Statement.{statement}
 use Rattle.compared.proofs.of_surfaces.compared_domain.Tie as tie
 
-surface-of-requires : tie.Need-surface-of-requires
-surface-of-requires c κs = search needs
-
-domain-requires : tie.Need-domain-requires
-domain-requires c κs = search needs
-
-limits-of-requires : tie.Need-limits-of-requires
-limits-of-requires c κs = search needs
-
 returns : tie.Need-returns
 returns c = c .limits-of .ensures ∙ ap limitsOf (c .before .domain .ensures ∙ ap domainOf (c .before .before .surface-of .ensures))
 
 pub compared-domain-spec : {M : Type 1} → statement M
-compared-domain-spec =
-    tie.close (tie.spec surface-of-requires domain-requires limits-of-requires returns)
+compared-domain-spec = tie.close (tie.spec (λ c κs. search needs) (λ c κs. search needs) (λ c κs. search needs) returns)

@@ -3,15 +3,8 @@ use borrow.Author.Needs.{needs}
 use Rattle.compared.proofs.of_whole.compared_full_domain_count.Statement.{statement}
 use Rattle.compared.proofs.of_whole.compared_full_domain_count.Tie as tie
 
-surface-of-requires : tie.Need-surface-of-requires
-surface-of-requires c κs = search needs
-
-full-domain-count-requires : tie.Need-full-domain-count-requires
-full-domain-count-requires c κs = search needs
-
 returns : tie.Need-returns
 returns c = rw (sym (c .before .surface-of .ensures)) (c .full-domain-count .ensures)
 
 pub compared-full-domain-count-spec : {M : Type 1} → statement M
-compared-full-domain-count-spec =
-    tie.close (tie.spec surface-of-requires full-domain-count-requires returns)
+compared-full-domain-count-spec = tie.close (tie.spec (λ c κs. search needs) (λ c κs. search needs) returns)

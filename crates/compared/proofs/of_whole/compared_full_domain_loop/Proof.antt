@@ -3,18 +3,6 @@ use borrow.Author.Needs.{needs}
 use Rattle.compared.proofs.of_whole.compared_full_domain_loop.Statement.{statement}
 use Rattle.compared.proofs.of_whole.compared_full_domain_loop.Tie as tie
 
-surface-of-requires : tie.Need-surface-of-requires
-surface-of-requires c κs = search needs
-
-frame-of-requires : tie.Need-frame-of-requires
-frame-of-requires c κs = search needs
-
-full-domain-loop-requires : tie.Need-full-domain-loop-requires
-full-domain-loop-requires c κs = search needs
-
-same-length : tie.Need-same-length
-same-length c = search needs
-
 returns : tie.Need-returns
 returns c =
     let called = c .before .before in
@@ -23,5 +11,4 @@ returns c =
 
 pub compared-full-domain-loop-spec : {M : Type 1} → statement M
 compared-full-domain-loop-spec =
-    tie.close
-    (tie.spec surface-of-requires frame-of-requires full-domain-loop-requires same-length returns)
+    tie.close (tie.spec (λ c κs. search needs) (λ c κs. search needs) (λ c κs. search needs) (λ c. search needs) returns)

@@ -16,31 +16,41 @@ array-share-prefix-corners : tie.Need-array-share-prefix-corners
 array-share-prefix-corners c = let b = reals-told _ _ _ _ (c .before .before .before .before .before .before .before .before .read-corners .ensures) _ (c .before .before .before .before .before .before .read-many2 .ensures) in omega (arith, c .before .before .before .before .before .before .before .corners2 .given)
 
 slice-aggregate-measure-loops : tie.Need-slice-aggregate-measure-loops
-slice-aggregate-measure-loops c = sym (length-take-le _ _ (let b = reals-told _ _ _ _ (c .before .before .before .before .before .before .before .before .before .read-corners .ensures) _ (c .before .before .before .before .before .before .before .read-many2 .ensures) in omega (arith, c .before .before .before .before .before .before .before .before .corners2 .given)))
+slice-aggregate-measure-loops c =
+    sym
+    (length-take-le _ _ (let b = reals-told _ _ _ _ (c .before .before .before .before .before .before .before .before .before .read-corners .ensures) _ (c .before .before .before .before .before .before .before .read-many2 .ensures) in omega (arith, c .before .before .before .before .before .before .before .before .corners2 .given)))
 
 array-share-prefix-given : tie.Need-array-share-prefix-given
 array-share-prefix-given c = let b = counts-told _ _ _ _ (c .before .before .before .before .before .before .before .before .before .before .before .before .before .read-counts .ensures) _ (c .before .before .before .before .before .before .before .before .before .before .before .read-many .ensures) in omega (arith, c .before .before .before .before .before .before .before .before .before .before .before .before .given2 .given)
 
 slice-aggregate-measure-loops-2 : tie.Need-slice-aggregate-measure-loops-2
-slice-aggregate-measure-loops-2 c = sym (length-take-le _ _ (let b = counts-told _ _ _ _ (c .before .before .before .before .before .before .before .before .before .before .before .before .before .before .read-counts .ensures) _ (c .before .before .before .before .before .before .before .before .before .before .before .before .read-many .ensures) in omega (arith, c .before .before .before .before .before .before .before .before .before .before .before .before .before .given2 .given)))
+slice-aggregate-measure-loops-2 c =
+    sym
+    (length-take-le _ _ (let b = counts-told _ _ _ _ (c .before .before .before .before .before .before .before .before .before .before .before .before .before .before .read-counts .ensures) _ (c .before .before .before .before .before .before .before .before .before .before .before .before .read-many .ensures) in omega (arith, c .before .before .before .before .before .before .before .before .before .before .before .before .before .given2 .given)))
 
 array-share-prefix-corners-2 : tie.Need-array-share-prefix-corners-2
 array-share-prefix-corners-2 c = let b = reals-told _ _ _ _ (c .before .before .before .before .before .before .before .before .before .before .before .before .before .before .before .before .before .before .before .read-corners .ensures) _ (c .before .before .before .before .before .before .before .before .before .before .before .before .before .before .before .before .before .read-many2 .ensures) in omega (arith, c .before .before .before .before .before .before .before .before .before .before .before .before .before .before .before .before .before .before .corners2 .given)
 
 slice-aggregate-check-rings : tie.Need-slice-aggregate-check-rings
-slice-aggregate-check-rings c = sym (length-take-le _ _ (let b = reals-told _ _ _ _ (c .before .before .before .before .before .before .before .before .before .before .before .before .before .before .before .before .before .before .before .before .read-corners .ensures) _ (c .before .before .before .before .before .before .before .before .before .before .before .before .before .before .before .before .before .before .read-many2 .ensures) in omega (arith, c .before .before .before .before .before .before .before .before .before .before .before .before .before .before .before .before .before .before .before .corners2 .given)))
+slice-aggregate-check-rings c =
+    sym
+    (length-take-le _ _ (let b = reals-told _ _ _ _ (c .before .before .before .before .before .before .before .before .before .before .before .before .before .before .before .before .before .before .before .before .read-corners .ensures) _ (c .before .before .before .before .before .before .before .before .before .before .before .before .before .before .before .before .before .before .read-many2 .ensures) in omega (arith, c .before .before .before .before .before .before .before .before .before .before .before .before .before .before .before .before .before .before .before .corners2 .given)))
 
 array-share-prefix-given-2 : tie.Need-array-share-prefix-given-2
 array-share-prefix-given-2 c = let b = counts-told _ _ _ _ (c .before .before .before .before .before .before .before .before .before .before .before .before .before .before .before .before .before .before .before .before .before .before .before .before .read-counts .ensures) _ (c .before .before .before .before .before .before .before .before .before .before .before .before .before .before .before .before .before .before .before .before .before .before .read-many .ensures) in omega (arith, c .before .before .before .before .before .before .before .before .before .before .before .before .before .before .before .before .before .before .before .before .before .before .before .given2 .given)
 
 slice-aggregate-check-rings-2 : tie.Need-slice-aggregate-check-rings-2
-slice-aggregate-check-rings-2 c = sym (length-take-le _ _ (let b = counts-told _ _ _ _ (c .before .before .before .before .before .before .before .before .before .before .before .before .before .before .before .before .before .before .before .before .before .before .before .before .before .read-counts .ensures) _ (c .before .before .before .before .before .before .before .before .before .before .before .before .before .before .before .before .before .before .before .before .before .before .before .read-many .ensures) in omega (arith, c .before .before .before .before .before .before .before .before .before .before .before .before .before .before .before .before .before .before .before .before .before .before .before .before .given2 .given)))
+slice-aggregate-check-rings-2 c =
+    sym
+    (length-take-le _ _ (let b = counts-told _ _ _ _ (c .before .before .before .before .before .before .before .before .before .before .before .before .before .before .before .before .before .before .before .before .before .before .before .before .before .read-counts .ensures) _ (c .before .before .before .before .before .before .before .before .before .before .before .before .before .before .before .before .before .before .before .before .before .before .before .read-many .ensures) in omega (arith, c .before .before .before .before .before .before .before .before .before .before .before .before .before .before .before .before .before .before .before .before .before .before .before .before .given2 .given)))
 
 array-share-prefix-wraps : tie.Need-array-share-prefix-wraps
 array-share-prefix-wraps c = let b = counts-told _ _ _ _ (c .before .before .before .before .before .before .before .before .before .before .before .before .before .before .before .before .before .before .before .before .before .before .before .before .before .read-counts .ensures) _ (c .before .before .before .before .before .before .before .before .before .before .before .before .before .before .before .before .before .before .before .before .before .before .before .read-many .ensures) in omega (arith, c .before .before .before .before .before .before .wraps2 .given)
 
 slice-aggregate-check-rings-3 : tie.Need-slice-aggregate-check-rings-3
-slice-aggregate-check-rings-3 c = sym (length-take-le _ _ (let b = counts-told _ _ _ _ (c .before .before .before .before .before .before .before .before .before .before .before .before .before .before .before .before .before .before .before .before .before .before .before .before .before .before .read-counts .ensures) _ (c .before .before .before .before .before .before .before .before .before .before .before .before .before .before .before .before .before .before .before .before .before .before .before .before .read-many .ensures) in omega (arith, c .before .before .before .before .before .before .before .wraps2 .given)))
+slice-aggregate-check-rings-3 c =
+    sym
+    (length-take-le _ _ (let b = counts-told _ _ _ _ (c .before .before .before .before .before .before .before .before .before .before .before .before .before .before .before .before .before .before .before .before .before .before .before .before .before .before .read-counts .ensures) _ (c .before .before .before .before .before .before .before .before .before .before .before .before .before .before .before .before .before .before .before .before .before .before .before .before .read-many .ensures) in omega (arith, c .before .before .before .before .before .before .before .wraps2 .given)))
 
 returns : tie.Need-returns
 returns c = λ a.
@@ -51,31 +61,41 @@ returns c = λ a.
     refused-as _ ringConditions stripConditions _ (c .before .before .before .check-rings .ensures ∙ rings-judged _ _ (held _ a _ _ _ read) _ wraps-are _ (c .before .before .before .before .before .before .before .kind2 .ensures)) _ _ (c .before .found .given .1) _ _ _
 
 slice-aggregate-fill-path : tie.Need-slice-aggregate-fill-path
-slice-aggregate-fill-path c = sym (c .before .before .before .before .before .before .before .before .before .before .before .before .before .before .before .before .before .before .before .before .before .before .before .before .before .before .before .before .before .before .before .before .head2 .given)
+slice-aggregate-fill-path c =
+    sym
+    (c .before .before .before .before .before .before .before .before .before .before .before .before .before .before .before .before .before .before .before .before .before .before .before .before .before .before .before .before .before .before .before .before .head2 .given)
 
 array-share-prefix-given-3 : tie.Need-array-share-prefix-given-3
 array-share-prefix-given-3 c = let b = counts-told _ _ _ _ (c .before .before .before .before .before .before .before .before .before .before .before .before .before .before .before .before .before .before .before .before .before .before .before .before .before .before .before .before .before .before .read-counts .ensures) _ (c .before .before .before .before .before .before .before .before .before .before .before .before .before .before .before .before .before .before .before .before .before .before .before .before .before .before .before .before .read-many .ensures) in omega (arith, c .before .before .before .before .before .before .before .before .before .before .before .before .before .before .before .before .before .before .before .before .before .before .before .before .before .before .before .before .before .given2 .given)
 
 slice-aggregate-fill-path-2 : tie.Need-slice-aggregate-fill-path-2
-slice-aggregate-fill-path-2 c = sym (length-take-le _ _ (let b = counts-told _ _ _ _ (c .before .before .before .before .before .before .before .before .before .before .before .before .before .before .before .before .before .before .before .before .before .before .before .before .before .before .before .before .before .before .before .read-counts .ensures) _ (c .before .before .before .before .before .before .before .before .before .before .before .before .before .before .before .before .before .before .before .before .before .before .before .before .before .before .before .before .before .read-many .ensures) in omega (arith, c .before .before .before .before .before .before .before .before .before .before .before .before .before .before .before .before .before .before .before .before .before .before .before .before .before .before .before .before .before .before .given2 .given)))
+slice-aggregate-fill-path-2 c =
+    sym
+    (length-take-le _ _ (let b = counts-told _ _ _ _ (c .before .before .before .before .before .before .before .before .before .before .before .before .before .before .before .before .before .before .before .before .before .before .before .before .before .before .before .before .before .before .before .read-counts .ensures) _ (c .before .before .before .before .before .before .before .before .before .before .before .before .before .before .before .before .before .before .before .before .before .before .before .before .before .before .before .before .before .read-many .ensures) in omega (arith, c .before .before .before .before .before .before .before .before .before .before .before .before .before .before .before .before .before .before .before .before .before .before .before .before .before .before .before .before .before .before .given2 .given)))
 
 array-borrow-prefix-corners : tie.Need-array-borrow-prefix-corners
 array-borrow-prefix-corners c = let b = reals-told _ _ _ _ (c .before .before .before .before .before .before .before .before .before .before .before .before .before .before .before .before .before .before .before .before .before .before .before .before .before .before .before .read-corners .ensures) _ (c .before .before .before .before .before .before .before .before .before .before .before .before .before .before .before .before .before .before .before .before .before .before .before .before .before .read-many2 .ensures) in omega (arith, c .before .before .before .before .before .before .before .before .before .before .before .before .before .before .before .before .before .before .before .before .before .before .before .before .before .before .corners2 .given)
 
 slice-aggregate-fill-path-3 : tie.Need-slice-aggregate-fill-path-3
-slice-aggregate-fill-path-3 c = sym (length-take-le _ _ (let b = reals-told _ _ _ _ (c .before .before .before .before .before .before .before .before .before .before .before .before .before .before .before .before .before .before .before .before .before .before .before .before .before .before .before .before .read-corners .ensures) _ (c .before .before .before .before .before .before .before .before .before .before .before .before .before .before .before .before .before .before .before .before .before .before .before .before .before .before .read-many2 .ensures) in omega (arith, c .before .before .before .before .before .before .before .before .before .before .before .before .before .before .before .before .before .before .before .before .before .before .before .before .before .before .before .corners2 .given)))
+slice-aggregate-fill-path-3 c =
+    sym
+    (length-take-le _ _ (let b = reals-told _ _ _ _ (c .before .before .before .before .before .before .before .before .before .before .before .before .before .before .before .before .before .before .before .before .before .before .before .before .before .before .before .before .read-corners .ensures) _ (c .before .before .before .before .before .before .before .before .before .before .before .before .before .before .before .before .before .before .before .before .before .before .before .before .before .before .read-many2 .ensures) in omega (arith, c .before .before .before .before .before .before .before .before .before .before .before .before .before .before .before .before .before .before .before .before .before .before .before .before .before .before .before .corners2 .given)))
 
 array-share-prefix-wraps-2 : tie.Need-array-share-prefix-wraps-2
 array-share-prefix-wraps-2 c = let b = counts-told _ _ _ _ (c .before .before .before .before .before .before .before .before .before .before .before .before .before .before .before .before .before .before .before .before .before .before .before .before .before .before .before .before .before .before .before .before .read-counts .ensures) _ (c .before .before .before .before .before .before .before .before .before .before .before .before .before .before .before .before .before .before .before .before .before .before .before .before .before .before .before .before .before .before .read-many .ensures) in omega (arith, c .before .before .before .before .before .before .before .before .before .before .before .before .before .wraps2 .given)
 
 slice-aggregate-fill-path-4 : tie.Need-slice-aggregate-fill-path-4
-slice-aggregate-fill-path-4 c = sym (length-take-le _ _ (let b = counts-told _ _ _ _ (c .before .before .before .before .before .before .before .before .before .before .before .before .before .before .before .before .before .before .before .before .before .before .before .before .before .before .before .before .before .before .before .before .before .read-counts .ensures) _ (c .before .before .before .before .before .before .before .before .before .before .before .before .before .before .before .before .before .before .before .before .before .before .before .before .before .before .before .before .before .before .before .read-many .ensures) in omega (arith, c .before .before .before .before .before .before .before .before .before .before .before .before .before .before .wraps2 .given)))
+slice-aggregate-fill-path-4 c =
+    sym
+    (length-take-le _ _ (let b = counts-told _ _ _ _ (c .before .before .before .before .before .before .before .before .before .before .before .before .before .before .before .before .before .before .before .before .before .before .before .before .before .before .before .before .before .before .before .before .before .read-counts .ensures) _ (c .before .before .before .before .before .before .before .before .before .before .before .before .before .before .before .before .before .before .before .before .before .before .before .before .before .before .before .before .before .before .before .read-many .ensures) in omega (arith, c .before .before .before .before .before .before .before .before .before .before .before .before .before .before .wraps2 .given)))
 
 array-borrow-prefix-measured : tie.Need-array-borrow-prefix-measured
 array-borrow-prefix-measured c = let b = counts-told _ _ _ _ (c .before .before .before .before .before .before .before .before .before .before .before .before .before .before .before .before .before .before .before .before .before .before .before .before .before .before .before .before .before .before .before .before .before .read-counts .ensures) _ (c .before .before .before .before .before .before .before .before .before .before .before .before .before .before .before .before .before .before .before .before .before .before .before .before .before .before .before .before .before .before .before .read-many .ensures) in omega (arith, c .before .before .before .before .before .before .before .before .before .before .before .measured2 .given)
 
 slice-aggregate-fill-path-5 : tie.Need-slice-aggregate-fill-path-5
-slice-aggregate-fill-path-5 c = sym (length-take-le _ _ (let b = counts-told _ _ _ _ (c .before .before .before .before .before .before .before .before .before .before .before .before .before .before .before .before .before .before .before .before .before .before .before .before .before .before .before .before .before .before .before .before .before .before .read-counts .ensures) _ (c .before .before .before .before .before .before .before .before .before .before .before .before .before .before .before .before .before .before .before .before .before .before .before .before .before .before .before .before .before .before .before .before .read-many .ensures) in omega (arith, c .before .before .before .before .before .before .before .before .before .before .before .before .measured2 .given)))
+slice-aggregate-fill-path-5 c =
+    sym
+    (length-take-le _ _ (let b = counts-told _ _ _ _ (c .before .before .before .before .before .before .before .before .before .before .before .before .before .before .before .before .before .before .before .before .before .before .before .before .before .before .before .before .before .before .before .before .before .before .read-counts .ensures) _ (c .before .before .before .before .before .before .before .before .before .before .before .before .before .before .before .before .before .before .before .before .before .before .before .before .before .before .before .before .before .before .before .before .read-many .ensures) in omega (arith, c .before .before .before .before .before .before .before .before .before .before .before .before .measured2 .given)))
 
 returns-2 : tie.Need-returns-2
 returns-2 c = λ a.
@@ -91,52 +111,11 @@ returns-2 c = λ a.
 
 pub fill-record-spec : {M : Type 1} → statement M
 fill-record-spec =
-    tie.close
-    (tie.spec
-    (λ c. search needs)
-    (λ c κs. search needs)
-    (λ c. search needs)
-    (λ c κs. search needs)
-    (λ c κs. search needs)
-    (λ c. search needs)
-    (λ c κs. search needs)
-    (λ c κs. search needs)
-    mul-e
-    (λ c κs. search needs)
-    (λ c. search needs)
-    (λ c κs. search needs)
-    (λ c. search needs)
-    (λ c κs. search needs)
-    (λ c κs. search needs)
-    array-share-prefix-corners
-    slice-aggregate-measure-loops
-    array-share-prefix-given
-    slice-aggregate-measure-loops-2
-    (λ c κs. search needs)
-    (λ c κs. search needs)
-    (λ c. search needs)
-    (λ c κs. search needs)
-    (λ c. search needs)
-    (λ c κs. search needs)
-    (λ c κs. search needs)
-    array-share-prefix-corners-2
-    slice-aggregate-check-rings
-    array-share-prefix-given-2
-    slice-aggregate-check-rings-2
-    array-share-prefix-wraps
-    slice-aggregate-check-rings-3
-    (λ c κs. search needs)
-    (λ c. search needs)
-    returns
-    (λ c. search needs)
-    slice-aggregate-fill-path
-    array-share-prefix-given-3
-    slice-aggregate-fill-path-2
-    array-borrow-prefix-corners
-    slice-aggregate-fill-path-3
-    array-share-prefix-wraps-2
-    slice-aggregate-fill-path-4
-    array-borrow-prefix-measured
-    slice-aggregate-fill-path-5
-    (λ c κs. search needs)
-    returns-2)
+    tie.close (tie.spec (λ c. search needs) (λ c κs. search needs) (λ c. search needs) (λ c κs. search needs) (λ c κs. search needs) (λ c. search needs)
+    (λ c κs. search needs) (λ c κs. search needs) mul-e (λ c κs. search needs) (λ c. search needs) (λ c κs. search needs) (λ c. search needs)
+    (λ c κs. search needs) (λ c κs. search needs) array-share-prefix-corners slice-aggregate-measure-loops array-share-prefix-given
+    slice-aggregate-measure-loops-2 (λ c κs. search needs) (λ c κs. search needs) (λ c. search needs) (λ c κs. search needs) (λ c. search needs)
+    (λ c κs. search needs) (λ c κs. search needs) array-share-prefix-corners-2 slice-aggregate-check-rings array-share-prefix-given-2
+    slice-aggregate-check-rings-2 array-share-prefix-wraps slice-aggregate-check-rings-3 (λ c κs. search needs) (λ c. search needs) returns (λ c. search needs)
+    slice-aggregate-fill-path array-share-prefix-given-3 slice-aggregate-fill-path-2 array-borrow-prefix-corners slice-aggregate-fill-path-3
+    array-share-prefix-wraps-2 slice-aggregate-fill-path-4 array-borrow-prefix-measured slice-aggregate-fill-path-5 (λ c κs. search needs) returns-2)

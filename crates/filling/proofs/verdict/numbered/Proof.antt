@@ -5,48 +5,6 @@ use borrow.Author.Needs.{needs}
 use Rattle.filling.proofs.verdict.numbered.Statement.{statement}
 use Rattle.filling.proofs.verdict.numbered.Tie as tie
 
-enum-told : tie.Need-enum-told
-enum-told c = search needs
-
-enum-known-checked : tie.Need-enum-known-checked
-enum-known-checked c = search needs
-
-refuses-requires : tie.Need-refuses-requires
-refuses-requires c κs = search needs
-
-enum-known-checked-2 : tie.Need-enum-known-checked-2
-enum-known-checked-2 c = search needs
-
-refuses-requires-2 : tie.Need-refuses-requires-2
-refuses-requires-2 c κs = search needs
-
-enum-known-checked-3 : tie.Need-enum-known-checked-3
-enum-known-checked-3 c = search needs
-
-refuses-requires-3 : tie.Need-refuses-requires-3
-refuses-requires-3 c κs = search needs
-
-enum-known-checked-4 : tie.Need-enum-known-checked-4
-enum-known-checked-4 c = search needs
-
-refuses-requires-4 : tie.Need-refuses-requires-4
-refuses-requires-4 c κs = search needs
-
-enum-known-checked-5 : tie.Need-enum-known-checked-5
-enum-known-checked-5 c = search needs
-
-refuses-requires-5 : tie.Need-refuses-requires-5
-refuses-requires-5 c κs = search needs
-
-enum-known-checked-6 : tie.Need-enum-known-checked-6
-enum-known-checked-6 c = search needs
-
-refuses-requires-6 : tie.Need-refuses-requires-6
-refuses-requires-6 c κs = search needs
-
-returns : tie.Need-returns
-returns c = search needs
-
 returns-2 : tie.Need-returns-2
 returns-2 c = ap verdictOf (c .refuses .ensures) ∙ ap foundBy (sym (c .before .before .checked .given .1))
 
@@ -67,25 +25,6 @@ returns-7 c = ap verdictOf (c .refuses6 .ensures) ∙ ap foundBy (sym (c .before
 
 pub numbered-spec : {M : Type 1} → statement M
 numbered-spec =
-    tie.close
-    (tie.spec
-    enum-told
-    enum-known-checked
-    refuses-requires
-    enum-known-checked-2
-    refuses-requires-2
-    enum-known-checked-3
-    refuses-requires-3
-    enum-known-checked-4
-    refuses-requires-4
-    enum-known-checked-5
-    refuses-requires-5
-    enum-known-checked-6
-    refuses-requires-6
-    returns
-    returns-2
-    returns-3
-    returns-4
-    returns-5
-    returns-6
-    returns-7)
+    tie.close (tie.spec (λ c. search needs) (λ c. search needs) (λ c κs. search needs) (λ c. search needs) (λ c κs. search needs) (λ c. search needs)
+    (λ c κs. search needs) (λ c. search needs) (λ c κs. search needs) (λ c. search needs) (λ c κs. search needs) (λ c. search needs) (λ c κs. search needs)
+    (λ c. search needs) returns-2 returns-3 returns-4 returns-5 returns-6 returns-7)

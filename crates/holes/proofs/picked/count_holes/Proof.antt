@@ -1,7 +1,6 @@
 use borrow.Author.Needs.{needs}
 use Prim.Native.Nat.{_-_}
 use native.Mathlib.Omega.{arith}
-use borrow.Author.Needs.{needs}
 use Rattle.holes.proofs.picked.Laws.{Counting, counting, counting-ring, counting-hole, counting-end}
 use Rattle.holes.proofs.picked.count_holes.Statement.{statement}
 use Rattle.holes.proofs.picked.count_holes.Tie as tie
@@ -15,42 +14,21 @@ abbrev μ-loop : tie.MeasureT-loop
 loop-holds : tie.Need-loop-holds Inv-loop μ-loop
 loop-holds c = counting _ _ _
 
-add-i : tie.Need-add-i Inv-loop μ-loop
-add-i c = omega arith
-
-is-ring-requires : tie.Need-is-ring-requires Inv-loop μ-loop
-is-ring-requires c κs = search needs
-
 add-k : tie.Need-add-k Inv-loop μ-loop
 add-k c = omega (arith, c .before .before .before .loop .inv .few)
 
-loop-less : tie.Need-loop-less Inv-loop μ-loop
-loop-less c = omega arith
-
 loop-again : tie.Need-loop-again Inv-loop μ-loop
-loop-again c = counting-hole _ _ _ _ _ (c .before .before .before .loop .inv) (c .before .before .loop-test .taken) _ (c .before .is-ring .ensures) (c .if1 .taken)
-
-loop-less-2 : tie.Need-loop-less-2 Inv-loop μ-loop
-loop-less-2 c = omega arith
+loop-again c =
+    counting-hole _ _ _ _ _ (c .before .before .before .loop .inv) (c .before .before .loop-test .taken) _ (c .before .is-ring .ensures) (c .if1 .taken)
 
 loop-again-2 : tie.Need-loop-again-2 Inv-loop μ-loop
-loop-again-2 c = counting-ring _ _ _ _ _ (c .before .before .before .loop .inv) (c .before .before .loop-test .taken) _ (c .before .is-ring .ensures) (c .if1 .left)
+loop-again-2 c =
+    counting-ring _ _ _ _ _ (c .before .before .before .loop .inv) (c .before .before .loop-test .taken) _ (c .before .is-ring .ensures) (c .if1 .left)
 
 returns : tie.Need-returns Inv-loop μ-loop
 returns c = counting-end _ _ _ _ _ (c .before .loop .inv) (c .loop-test .left)
 
 pub count-holes-spec : {M : Type 1} → statement M
 count-holes-spec =
-    tie.close
-    (tie.spec
-    Inv-loop
-    μ-loop
-    loop-holds
-    add-i
-    is-ring-requires
-    add-k
-    loop-less
-    loop-again
-    loop-less-2
-    loop-again-2
+    tie.close (tie.spec Inv-loop μ-loop loop-holds (λ c. omega arith) (λ c κs. search needs) add-k (λ c. omega arith) loop-again (λ c. omega arith) loop-again-2
     returns)

@@ -14,30 +14,14 @@ mul-e c = omega (arith, length-rows (c .before .args .t .now))
 mul-end-of : tie.Need-mul-end-of
 mul-end-of c = omega (arith, length-rows (c .before .args .t .now))
 
-sub-end-of : tie.Need-sub-end-of
-sub-end-of c = search needs
-
-part-end-of-start : tie.Need-part-end-of-start
-part-end-of-start c = search needs
-
 part-end-of-end : tie.Need-part-end-of-end
 part-end-of-end c = omega (arith, length-rows (c .before .args .t .now))
 
-end-of-requires : tie.Need-end-of-requires
-end-of-requires c κs = search needs
-
 returns : tie.Need-returns
-returns c = end-in _ (c .before .before .before .args .from) (c .before .before .before .args .to) (c .before .before .before .args .t .now) _ (c .end-of .ensures)
+returns c =
+    let start = c .before .before .before in
+    end-in _ (start .args .from) (start .args .to) (start .args .t .now) _ (c .end-of .ensures)
 
 pub end-of-part-spec : {M : Type 1} → statement M
 end-of-part-spec =
-    tie.close
-    (tie.spec
-    mul-a
-    mul-e
-    mul-end-of
-    sub-end-of
-    part-end-of-start
-    part-end-of-end
-    end-of-requires
-    returns)
+    tie.close (tie.spec mul-a mul-e mul-end-of (λ c. search needs) (λ c. search needs) part-end-of-end (λ c κs. search needs) returns)

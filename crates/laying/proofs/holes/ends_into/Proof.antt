@@ -2,7 +2,6 @@ use borrow.Author.Needs.{needs}
 use Prim.Native.Nat.{_-_}
 use lib.ListN.{length}
 use native.Mathlib.Omega.{arith}
-use borrow.Author.Needs.{needs}
 use Rattle.seam.proofs.EachHole.{no-ending}
 use Rattle.laying.proofs.EachHole.{Bounding, bounding, bounding-turn, bounding-end}
 use Rattle.laying.proofs.holes.ends_into.Statement.{statement}
@@ -17,20 +16,8 @@ abbrev μ-loop : tie.MeasureT-loop
 returns : tie.Need-returns Inv-loop μ-loop
 returns c = no-ending _ _ _ _ (c .if1 .taken)
 
-count-requires : tie.Need-count-requires Inv-loop μ-loop
-count-requires c κs = search needs
-
 loop-holds : tie.Need-loop-holds Inv-loop μ-loop
 loop-holds c = bounding _ _ _ _ _ (c .count .ensures .0) (c .before .if1 .left)
-
-mul-piece-end : tie.Need-mul-piece-end Inv-loop μ-loop
-mul-piece-end c = omega arith
-
-shared-slice-read-piece-end : tie.Need-shared-slice-read-piece-end Inv-loop μ-loop
-shared-slice-read-piece-end c = omega arith
-
-piece-end-requires : tie.Need-piece-end-requires Inv-loop μ-loop
-piece-end-requires c κs = search needs
 
 end-of-part-requires : tie.Need-end-of-part-requires Inv-loop μ-loop
 end-of-part-requires c κs = (let e = c .piece-end .ensures in let a = c .before .before .before .loop .inv .is .at .low in let n = c .before .before .before .loop .inv .count in omega arith, let e = c .piece-end .ensures in let n = c .before .before .before .loop .inv .whole in omega arith)
@@ -41,14 +28,10 @@ mul-out c = let l = c .before .before .before .before .loop .inv .is .fill .long
 slice-write-out : tie.Need-slice-write-out Inv-loop μ-loop
 slice-write-out c = let l = c .before .before .before .before .loop .inv .is .fill .long in omega arith
 
-add-i : tie.Need-add-i Inv-loop μ-loop
-add-i c = omega arith
-
-loop-less : tie.Need-loop-less Inv-loop μ-loop
-loop-less c = omega arith
-
 loop-again : tie.Need-loop-again Inv-loop μ-loop
-loop-again c = bounding-turn _ _ _ _ _ _ _ _ _ _ (c .before .before .before .before .loop .inv) (c .before .before .before .loop-test .taken) (c .before .piece-end .ensures) (c .end-of-part .ensures)
+loop-again c =
+    bounding-turn _ _ _ _ _ _ _ _ _ _ (c .before .before .before .before .loop .inv) (c .before .before .before .loop-test .taken)
+    (c .before .piece-end .ensures) (c .end-of-part .ensures)
 
 same-length : tie.Need-same-length Inv-loop μ-loop
 same-length c = c .before .loop .inv .is .fill .long
@@ -58,21 +41,5 @@ returns-2 c = bounding-end _ _ _ _ _ _ _ _ (c .before .loop .inv) (c .loop-test 
 
 pub ends-into-spec : {M : Type 1} → statement M
 ends-into-spec =
-    tie.close
-    (tie.spec
-    Inv-loop
-    μ-loop
-    returns
-    count-requires
-    loop-holds
-    mul-piece-end
-    shared-slice-read-piece-end
-    piece-end-requires
-    end-of-part-requires
-    mul-out
-    slice-write-out
-    add-i
-    loop-less
-    loop-again
-    same-length
-    returns-2)
+    tie.close (tie.spec Inv-loop μ-loop returns (λ c κs. search needs) loop-holds (λ c. omega arith) (λ c. omega arith) (λ c κs. search needs)
+    end-of-part-requires mul-out slice-write-out (λ c. omega arith) (λ c. omega arith) loop-again same-length returns-2)

@@ -14,30 +14,14 @@ mul-e c = omega (arith, length-rows (c .before .args .t .now))
 mul-straddles : tie.Need-mul-straddles
 mul-straddles c = omega (arith, length-rows (c .before .args .t .now))
 
-sub-straddles : tie.Need-sub-straddles
-sub-straddles c = search needs
-
-part-straddles-start : tie.Need-part-straddles-start
-part-straddles-start c = search needs
-
 part-straddles-end : tie.Need-part-straddles-end
 part-straddles-end c = omega (arith, length-rows (c .before .args .t .now))
 
-straddles-requires : tie.Need-straddles-requires
-straddles-requires c κs = search needs
-
 returns : tie.Need-returns
-returns c = straddles-in _ _ (c .before .before .before .args .from) (c .before .before .before .args .to) (c .before .before .before .args .t .now) _ (c .straddles .ensures)
+returns c =
+    let start = c .before .before .before in
+    straddles-in _ _ (start .args .from) (start .args .to) (start .args .t .now) _ (c .straddles .ensures)
 
 pub straddles-part-spec : {M : Type 1} → statement M
 straddles-part-spec =
-    tie.close
-    (tie.spec
-    mul-a
-    mul-e
-    mul-straddles
-    sub-straddles
-    part-straddles-start
-    part-straddles-end
-    straddles-requires
-    returns)
+    tie.close (tie.spec mul-a mul-e mul-straddles (λ c. search needs) (λ c. search needs) part-straddles-end (λ c κs. search needs) returns)

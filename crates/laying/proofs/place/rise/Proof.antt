@@ -3,12 +3,6 @@ use borrow.Author.Needs.{needs}
 use Rattle.laying.proofs.place.rise.Statement.{statement}
 use Rattle.laying.proofs.place.rise.Tie as tie
 
-reverse-rows-requires : tie.Need-reverse-rows-requires
-reverse-rows-requires c κs = search needs
-
-same-length : tie.Need-same-length
-same-length c = search needs
-
 returns : tie.Need-returns
 returns c = rises _ _ _ (c .before .before .before .before .if1 .taken) (c .before .before .reverse-rows .ensures)
 
@@ -16,4 +10,4 @@ returns-2 : tie.Need-returns-2
 returns-2 c = stays _ _ (c .if1 .left)
 
 pub rise-spec : {M : Type 1} → statement M
-rise-spec = tie.close (tie.spec reverse-rows-requires same-length returns returns-2)
+rise-spec = tie.close (tie.spec (λ c κs. search needs) (λ c. search needs) returns returns-2)

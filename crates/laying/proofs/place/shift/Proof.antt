@@ -3,18 +3,6 @@ use borrow.Author.Needs.{needs}
 use Rattle.laying.proofs.place.shift.Statement.{statement}
 use Rattle.laying.proofs.place.shift.Tie as tie
 
-first-of-requires : tie.Need-first-of-requires
-first-of-requires c κs = search needs
-
-branch-shift-requires : tie.Need-branch-shift-requires
-branch-shift-requires c κs = search needs
-
-move-u-requires : tie.Need-move-u-requires
-move-u-requires c κs = search needs
-
-same-length : tie.Need-same-length
-same-length c = search needs
-
 returns : tie.Need-returns
 returns c =
     let first = c .before .before .before .before .before .first-of in
@@ -23,5 +11,4 @@ returns c =
 
 pub shift-spec : {M : Type 1} → statement M
 shift-spec =
-    tie.close
-    (tie.spec first-of-requires branch-shift-requires move-u-requires same-length returns)
+    tie.close (tie.spec (λ c κs. search needs) (λ c κs. search needs) (λ c κs. search needs) (λ c. search needs) returns)

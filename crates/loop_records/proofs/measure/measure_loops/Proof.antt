@@ -44,19 +44,5 @@ all-measured c =
 
 pub measure-loops-spec : {M : Type 1} → statement M
 measure-loops-spec =
-    tie.close
-    (tie.spec
-    Inv-loop
-    μ-loop
-    (λ c κs. search needs)
-    too-many
-    (λ c κs. search needs)
-    loop-holds
-    (λ c. omega arith)
-    (λ c. omega arith)
-    (λ c κs. search needs)
-    with-part-requires
-    (λ c. omega arith)
-    (λ c. omega arith)
-    loop-again
-    all-measured)
+    tie.close (tie.spec Inv-loop μ-loop (λ c κs. search needs) too-many (λ c κs. search needs) loop-holds (λ c. omega arith) (λ c. omega arith)
+    (λ c κs. search needs) with-part-requires (λ c. omega arith) (λ c. omega arith) loop-again all-measured)

@@ -19,13 +19,5 @@ returns c =
 
 pub with-part-spec : {M : Type 1} → statement M
 with-part-spec =
-    tie.close
-    (tie.spec
-    (λ c. omega (arith, length-rows (c .before .args .t .now)))
-    (λ c. omega (arith, length-rows (c .before .args .t .now)))
-    (λ c. omega (arith, length-rows (c .before .args .t .now)))
-    (λ c. search needs)
-    (λ c. search needs)
-    part-end
-    (λ c κs. search needs)
-    returns)
+    tie.close (tie.spec (λ c. omega (arith, length-rows (c .before .args .t .now))) (λ c. omega (arith, length-rows (c .before .args .t .now)))
+    (λ c. omega (arith, length-rows (c .before .args .t .now))) (λ c. search needs) (λ c. search needs) part-end (λ c κs. search needs) returns)

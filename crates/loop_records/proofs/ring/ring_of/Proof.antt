@@ -10,4 +10,5 @@ past c =
     none-taken (start .args .loops) (start .args .i) (rows (start .args .t .now)) (rows (start .args .dst .now)) _ (start .good .1 .1 .0 .1 .0 .1) (c .before .if1 .left) (c .no-loop .ensures)
 
 pub ring-of-spec : {M : Type 1} → statement M
-ring-of-spec = tie.close (tie.spec (λ c κs. search needs) (λ c. search needs) (λ c. search needs) (λ c κs. search needs) past)
+ring-of-spec =
+    tie.close (tie.spec (λ c κs. search needs) (λ c. search needs) (λ c. search needs) (λ c κs. search needs) past)

@@ -3,9 +3,6 @@ use borrow.Author.Needs.{needs}
 use Rattle.loops.proofs.branch.branch_shift.Statement.{statement}
 use Rattle.loops.proofs.branch.branch_shift.Tie as tie
 
-round-requires : tie.Need-round-requires
-round-requires c κs = search needs
-
 returns : tie.Need-returns
 returns c =
     let a = c .before .args in
@@ -13,4 +10,4 @@ returns c =
     shift-answer (a .value) (a .reference) (a .period) _ (g .0 .1) (g .1 .0 .1) (rw (c .round .ensures))
 
 pub branch-shift-spec : {M : Type 1} → statement M
-branch-shift-spec = tie.close (tie.spec round-requires returns)
+branch-shift-spec = tie.close (tie.spec (λ c κs. search needs) returns)

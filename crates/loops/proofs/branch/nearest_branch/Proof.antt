@@ -11,9 +11,6 @@ returns c =
     let g = c .before .good in
     branch-answer (a .value) (a .reference) (a .period) _ (g .0 .1) (g .1 .0 .1) (rw (c .if1 .taken))
 
-branch-shift-requires : tie.Need-branch-shift-requires
-branch-shift-requires c κs = search needs
-
 returns-2 : tie.Need-returns-2
 unfolding nearestBranch
 returns-2 c =
@@ -22,4 +19,4 @@ returns-2 c =
     branch-answer (a .value) (a .reference) (a .period) _ (g .0 .1) (g .1 .0 .1) (rw (c .before .if1 .left, c .branch-shift .ensures .0))
 
 pub nearest-branch-spec : {M : Type 1} → statement M
-nearest-branch-spec = tie.close (tie.spec returns branch-shift-requires returns-2)
+nearest-branch-spec = tie.close (tie.spec returns (λ c κs. search needs) returns-2)

@@ -5,18 +5,6 @@ use Rattle.loops.proofs.wrap.Laws.{counted, too-far-off, no-turn}
 use Rattle.loops.proofs.wrap.turns_counted.Statement.{statement}
 use Rattle.loops.proofs.wrap.turns_counted.Tie as tie
 
-round-requires : tie.Need-round-requires
-round-requires c κs = search needs
-
-abs-requires : tie.Need-abs-requires
-abs-requires c κs = search needs
-
-abs-requires-2 : tie.Need-abs-requires-2
-abs-requires-2 c κs = search needs
-
-as-i32-requires : tie.Need-as-i32-requires
-as-i32-requires c κs = search needs
-
 returns : tie.Need-returns
 returns c =
     let at = c .before .before .before in
@@ -30,12 +18,4 @@ returns-3 c = no-turn _ _ _ (c .before .before .round .ensures) (c .before .abs 
 
 pub turns-counted-spec : {M : Type 1} → statement M
 turns-counted-spec =
-    tie.close
-    (tie.spec
-    round-requires
-    abs-requires
-    abs-requires-2
-    as-i32-requires
-    returns
-    returns-2
-    returns-3)
+    tie.close (tie.spec (λ c κs. search needs) (λ c κs. search needs) (λ c κs. search needs) (λ c κs. search needs) returns returns-2 returns-3)

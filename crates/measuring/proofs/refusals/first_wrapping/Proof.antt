@@ -17,17 +17,8 @@ abbrev μ-loop : tie.MeasureT-loop
 loop-holds : tie.Need-loop-holds Inv-loop μ-loop
 loop-holds c = seek-start
 
-wraps-at-requires : tie.Need-wraps-at-requires Inv-loop μ-loop
-wraps-at-requires c κs = search needs
-
 returns : tie.Need-returns Inv-loop μ-loop
 returns c = seek-found (c .before .before .before .loop .inv) (c .before .before .loop-test .taken) (sym (c .before .wraps-at .ensures) ∙ c .if1 .taken)
-
-add-k : tie.Need-add-k Inv-loop μ-loop
-add-k c = omega arith
-
-loop-less : tie.Need-loop-less Inv-loop μ-loop
-loop-less c = omega arith
 
 loop-again : tie.Need-loop-again Inv-loop μ-loop
 loop-again c = seek-turn (c .before .before .before .loop .inv) (c .before .before .loop-test .taken) (sym (c .before .wraps-at .ensures) ∙ c .if1 .left)
@@ -37,14 +28,4 @@ returns-2 c = seek-end (c .before .loop .inv) (c .loop-test .left)
 
 pub first-wrapping-spec : {M : Type 1} → statement M
 first-wrapping-spec =
-    tie.close
-    (tie.spec
-    Inv-loop
-    μ-loop
-    loop-holds
-    wraps-at-requires
-    returns
-    add-k
-    loop-less
-    loop-again
-    returns-2)
+    tie.close (tie.spec Inv-loop μ-loop loop-holds (λ c κs. search needs) returns (λ c. omega arith) (λ c. omega arith) loop-again returns-2)

@@ -13,17 +13,8 @@ abbrev μ-loop : tie.MeasureT-loop
 loop-holds : tie.Need-loop-holds Inv-loop μ-loop
 loop-holds c = falling _
 
-sub-k : tie.Need-sub-k Inv-loop μ-loop
-sub-k c = omega arith
-
-wraps-at-requires : tie.Need-wraps-at-requires Inv-loop μ-loop
-wraps-at-requires c κs = search needs
-
 returns : tie.Need-returns Inv-loop μ-loop
 returns c = falling-found _ _ (c .before .before .before .loop .inv) (c .before .before .loop-test .taken) _ (c .before .wraps-at .ensures) (c .if1 .taken)
-
-loop-less : tie.Need-loop-less Inv-loop μ-loop
-loop-less c = omega arith
 
 loop-again : tie.Need-loop-again Inv-loop μ-loop
 loop-again c = falling-turn _ _ (c .before .before .before .loop .inv) (c .before .before .loop-test .taken) _ (c .before .wraps-at .ensures) (c .if1 .left)
@@ -33,14 +24,4 @@ returns-2 c = falling-end _ _ (c .before .loop .inv) (c .loop-test .left)
 
 pub last-wrapping-spec : {M : Type 1} → statement M
 last-wrapping-spec =
-    tie.close
-    (tie.spec
-    Inv-loop
-    μ-loop
-    loop-holds
-    sub-k
-    wraps-at-requires
-    returns
-    loop-less
-    loop-again
-    returns-2)
+    tie.close (tie.spec Inv-loop μ-loop loop-holds (λ c. omega arith) (λ c κs. search needs) returns (λ c. omega arith) loop-again returns-2)

@@ -3,9 +3,6 @@ use borrow.Author.Needs.{needs}
 use Rattle.measuring.proofs.refusals.many_rings.Statement.{statement}
 use Rattle.measuring.proofs.refusals.many_rings.Tie as tie
 
-wrapping-count-requires : tie.Need-wrapping-count-requires
-wrapping-count-requires c κs = search needs
-
 returns : tie.Need-returns
 returns c = search (too-many, needs)
 
@@ -13,4 +10,4 @@ returns-2 : tie.Need-returns-2
 returns-2 c = search (few-enough, needs)
 
 pub many-rings-spec : {M : Type 1} → statement M
-many-rings-spec = tie.close (tie.spec wrapping-count-requires returns returns-2)
+many-rings-spec = tie.close (tie.spec (λ c κs. search needs) returns returns-2)

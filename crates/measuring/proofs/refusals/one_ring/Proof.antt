@@ -3,12 +3,6 @@ use borrow.Author.Needs.{needs}
 use Rattle.measuring.proofs.refusals.one_ring.Statement.{statement}
 use Rattle.measuring.proofs.refusals.one_ring.Tie as tie
 
-wrapping-count-requires : tie.Need-wrapping-count-requires
-wrapping-count-requires c κs = search needs
-
-first-wrapping-requires : tie.Need-first-wrapping-requires
-first-wrapping-requires c κs = search needs
-
 returns : tie.Need-returns
 returns c = search (one-found, needs)
 
@@ -16,5 +10,4 @@ returns-2 : tie.Need-returns-2
 returns-2 c = search (not-one, needs)
 
 pub one-ring-spec : {M : Type 1} → statement M
-one-ring-spec =
-    tie.close (tie.spec wrapping-count-requires first-wrapping-requires returns returns-2)
+one-ring-spec = tie.close (tie.spec (λ c κs. search needs) (λ c κs. search needs) returns returns-2)

@@ -18,17 +18,9 @@ abbrev μ-loop : tie.MeasureT-loop
 loop-holds : tie.Need-loop-holds Inv-loop μ-loop
 loop-holds c = seek-start
 
-open-at-requires : tie.Need-open-at-requires Inv-loop μ-loop
-open-at-requires c κs = search needs
-
 returns : tie.Need-returns Inv-loop μ-loop
-returns c = opening-found _ _ _ _ (c .before .before .before .loop .inv) (c .before .before .loop-test .taken) (sym (c .before .open-at .ensures) ∙ c .if1 .taken)
-
-add-k : tie.Need-add-k Inv-loop μ-loop
-add-k c = omega arith
-
-loop-less : tie.Need-loop-less Inv-loop μ-loop
-loop-less c = omega arith
+returns c =
+    opening-found _ _ _ _ (c .before .before .before .loop .inv) (c .before .before .loop-test .taken) (sym (c .before .open-at .ensures) ∙ c .if1 .taken)
 
 loop-again : tie.Need-loop-again Inv-loop μ-loop
 loop-again c = seek-turn (c .before .before .before .loop .inv) (c .before .before .loop-test .taken) (sym (c .before .open-at .ensures) ∙ c .if1 .left)
@@ -38,14 +30,4 @@ returns-2 c = opening-end _ _ _ _ (c .before .loop .inv) (c .loop-test .left)
 
 pub open-ring-spec : {M : Type 1} → statement M
 open-ring-spec =
-    tie.close
-    (tie.spec
-    Inv-loop
-    μ-loop
-    loop-holds
-    open-at-requires
-    returns
-    add-k
-    loop-less
-    loop-again
-    returns-2)
+    tie.close (tie.spec Inv-loop μ-loop loop-holds (λ c κs. search needs) returns (λ c. omega arith) (λ c. omega arith) loop-again returns-2)

@@ -15,38 +15,16 @@ abbrev μ-loop : tie.MeasureT-loop
 loop-holds : tie.Need-loop-holds Inv-loop μ-loop
 loop-holds c = counting _
 
-wraps-at-requires : tie.Need-wraps-at-requires Inv-loop μ-loop
-wraps-at-requires c κs = search needs
-
-one-if-requires : tie.Need-one-if-requires Inv-loop μ-loop
-one-if-requires c κs = search needs
-
 add-n : tie.Need-add-n Inv-loop μ-loop
 add-n c = let f = c .before .before .before .loop .inv .few in let b = counting-few _ _ _ (c .before .before .before .loop .inv) (c .before .before .loop-test .taken) _ (c .before .wraps-at .ensures) _ (c .one-if .ensures) in omega arith
 
-add-i : tie.Need-add-i Inv-loop μ-loop
-add-i c = omega arith
-
-loop-less : tie.Need-loop-less Inv-loop μ-loop
-loop-less c = omega arith
-
 loop-again : tie.Need-loop-again Inv-loop μ-loop
-loop-again c = counting-turn _ _ _ (c .before .before .before .loop .inv) (c .before .before .loop-test .taken) _ (c .before .wraps-at .ensures) _ (c .one-if .ensures)
+loop-again c =
+    counting-turn _ _ _ (c .before .before .before .loop .inv) (c .before .before .loop-test .taken) _ (c .before .wraps-at .ensures) _ (c .one-if .ensures)
 
 returns : tie.Need-returns Inv-loop μ-loop
 returns c = counting-end _ _ _ (c .before .loop .inv) (c .loop-test .left)
 
 pub wrapping-count-spec : {M : Type 1} → statement M
 wrapping-count-spec =
-    tie.close
-    (tie.spec
-    Inv-loop
-    μ-loop
-    loop-holds
-    wraps-at-requires
-    one-if-requires
-    add-n
-    add-i
-    loop-less
-    loop-again
-    returns)
+    tie.close (tie.spec Inv-loop μ-loop loop-holds (λ c κs. search needs) (λ c κs. search needs) add-n (λ c. omega arith) (λ c. omega arith) loop-again returns)

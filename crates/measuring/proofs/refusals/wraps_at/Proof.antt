@@ -3,12 +3,6 @@ use borrow.Author.Needs.{needs, sfits-of}
 use Rattle.measuring.proofs.refusals.wraps_at.Statement.{statement}
 use Rattle.measuring.proofs.refusals.wraps_at.Tie as tie
 
-mul-result : tie.Need-mul-result
-mul-result c = search needs
-
-shared-slice-copy-out-result : tie.Need-shared-slice-copy-out-result
-shared-slice-copy-out-result c = search needs
-
 returns : tie.Need-returns
 returns c = wraps-within _ _ (sfits-of (c .result .given))
 
@@ -16,4 +10,4 @@ returns-2 : tie.Need-returns-2
 returns-2 c = wraps-past _ _ (c .if1 .left)
 
 pub wraps-at-spec : {M : Type 1} → statement M
-wraps-at-spec = tie.close (tie.spec mul-result shared-slice-copy-out-result returns returns-2)
+wraps-at-spec = tie.close (tie.spec (λ c. search needs) (λ c. search needs) returns returns-2)

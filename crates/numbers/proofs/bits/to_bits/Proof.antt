@@ -24,8 +24,5 @@ float-to-bits-result c = no-nan (c .before .args .x) (c .if1 .left)
 returns : tie.Need-returns
 returns c = sym (ap (toBits binary64) (differs-from-itself (c .before .args .x) (subst T (sym (c .if1 .taken)) tt)) ∙ nan-bits)
 
-returns-2 : tie.Need-returns-2
-returns-2 c = search needs
-
 pub to-bits-spec : {M : Type 1} → statement M
-to-bits-spec = tie.close (tie.spec float-to-bits-result returns returns-2)
+to-bits-spec = tie.close (tie.spec float-to-bits-result returns (λ c. search needs))

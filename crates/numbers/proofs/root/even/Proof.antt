@@ -10,32 +10,11 @@ use Rattle.numbers.proofs.root.even.Tie as tie
 under : (c : tie.After-isqrt) → c .isqrt .result .q < 2 ^ 53
 under c = laws.root-under _ (c .before .before .args .h) _ _ _ (c .isqrt .ensures) (c .before .padding .ensures) (c .before .before .pre .2)
 
-padding-requires : tie.Need-padding-requires
-padding-requires c κs = search needs
-
-isqrt-requires : tie.Need-isqrt-requires
-isqrt-requires c κs = search needs
-
-add-e : tie.Need-add-e
-add-e c = search needs
-
-sub-e : tie.Need-sub-e
-sub-e c = search needs
-
-mul-result : tie.Need-mul-result
-mul-result c = search needs
-
-add-result : tie.Need-add-result
-add-result c = search needs
-
 add-result-2 : tie.Need-add-result-2
 add-result-2 c = let q = under (c .before .before .before) in omega arith
 
 float-from-bits-result : tie.Need-float-from-bits-result
 float-from-bits-result c = let q = under (c .before .before .before) in not-nan-bits _ (omega arith)
-
-mul-result-2 : tie.Need-mul-result-2
-mul-result-2 c = search needs
 
 add-result-3 : tie.Need-add-result-3
 add-result-3 c = let q = under (c .before .before .before) in omega arith
@@ -44,25 +23,16 @@ float-from-bits-result-2 : tie.Need-float-from-bits-result-2
 float-from-bits-result-2 c = let q = under (c .before .before .before) in not-nan-bits _ (omega arith)
 
 returns : tie.Need-returns
-returns c = laws.even-up _ _ _ _ _ (c .before .before .before .isqrt .ensures) (c .before .before .before .before .padding .ensures) (c .before .before .before .before .before .pre .2) (c .before .if1 .taken)
+returns c =
+    laws.even-up _ _ _ _ _ (c .before .before .before .isqrt .ensures) (c .before .before .before .before .padding .ensures)
+    (c .before .before .before .before .before .pre .2) (c .before .if1 .taken)
 
 returns-2 : tie.Need-returns-2
-returns-2 c = laws.even-down _ _ _ _ _ (c .before .before .before .isqrt .ensures) (c .before .before .before .before .padding .ensures) (c .before .before .before .before .before .pre .2) (c .before .if1 .left)
+returns-2 c =
+    laws.even-down _ _ _ _ _ (c .before .before .before .isqrt .ensures) (c .before .before .before .before .padding .ensures)
+    (c .before .before .before .before .before .pre .2) (c .before .if1 .left)
 
 pub even-spec : {M : Type 1} → statement M
 even-spec =
-    tie.close
-    (tie.spec
-    padding-requires
-    isqrt-requires
-    add-e
-    sub-e
-    mul-result
-    add-result
-    add-result-2
-    float-from-bits-result
-    mul-result-2
-    add-result-3
-    float-from-bits-result-2
-    returns
-    returns-2)
+    tie.close (tie.spec (λ c κs. search needs) (λ c κs. search needs) (λ c. search needs) (λ c. search needs) (λ c. search needs) (λ c. search needs)
+    add-result-2 float-from-bits-result (λ c. search needs) add-result-3 float-from-bits-result-2 returns returns-2)

@@ -14,9 +14,6 @@ abbrev μ-loop : tie.MeasureT-loop
 loop-holds : tie.Need-loop-holds Inv-loop μ-loop
 loop-holds c = laws.padding-none (c .args .m) (c .pre .0) (c .pre .1)
 
-mul-t : tie.Need-mul-t Inv-loop μ-loop
-mul-t c = omega arith
-
 add-k : tie.Need-add-k Inv-loop μ-loop
 add-k c = let f = laws.padding-few _ _ _ (c .before .loop .inv) in omega arith
 
@@ -34,5 +31,4 @@ returns c = laws.padding-ends _ _ _ (c .before .loop .inv) (c .loop-test .left)
 
 pub padding-spec : {M : Type 1} → statement M
 padding-spec =
-    tie.close
-    (tie.spec Inv-loop μ-loop loop-holds mul-t add-k loop-less loop-again add-result returns)
+    tie.close (tie.spec Inv-loop μ-loop loop-holds (λ c. omega arith) add-k loop-less loop-again add-result returns)

@@ -21,12 +21,6 @@ rooted-requires c κs =
     let d : 0 < toBits binary64 (s .args .x) % 2 ^ 52 * 2 ^ 0 = laws.some-digits (s .args .x) (toBits binary64 (s .args .x) % 2 ^ 52 * 2 ^ 0) (s .pre .0) v in
     (omega arith, omega arith, omega arith)
 
-add-rooted : tie.Need-add-rooted
-add-rooted c = search needs
-
-sub-rooted : tie.Need-sub-rooted
-sub-rooted c = search needs
-
 rooted-requires-2 : tie.Need-rooted-requires-2
 rooted-requires-2 c κs =
     let s = c .before in
@@ -47,12 +41,4 @@ returns-2 c =
 
 pub positive-spec : {M : Type 1} → statement M
 positive-spec =
-    tie.close
-    (tie.spec
-    float-to-bits-b
-    rooted-requires
-    add-rooted
-    sub-rooted
-    rooted-requires-2
-    returns
-    returns-2)
+    tie.close (tie.spec float-to-bits-b rooted-requires (λ c. search needs) (λ c. search needs) rooted-requires-2 returns returns-2)

@@ -5,15 +5,6 @@ use borrow.Author.Needs.{needs}
 use Rattle.numbers.proofs.root.rooted.Statement.{statement}
 use Rattle.numbers.proofs.root.rooted.Tie as tie
 
-even-requires : tie.Need-even-requires
-even-requires c κs = search needs
-
-mul-even : tie.Need-mul-even
-mul-even c = search needs
-
-even-requires-2 : tie.Need-even-requires-2
-even-requires-2 c κs = search needs
-
 returns : tie.Need-returns
 returns c = c .even .ensures ∙ ap rootFloat (laws.at-even (c .before .before .args .m) (c .before .before .args .k) (c .before .if1 .taken))
 
@@ -21,4 +12,4 @@ returns-2 : tie.Need-returns-2
 returns-2 c = c .even2 .ensures ∙ ap rootFloat (laws.at-odd (c .before .before .args .m) (c .before .before .args .k) (c .before .if1 .left))
 
 pub rooted-spec : {M : Type 1} → statement M
-rooted-spec = tie.close (tie.spec even-requires mul-even even-requires-2 returns returns-2)
+rooted-spec = tie.close (tie.spec (λ c κs. search needs) (λ c. search needs) (λ c κs. search needs) returns returns-2)

@@ -31,6 +31,4 @@ returns-4 : tie.Need-returns-4
 returns-4 c = no-number _ (c .before .if1 .left) (c .if3 .left)
 
 pub as-i32-spec : {M : Type 1} → statement M
-as-i32-spec =
-    tie.close
-    (tie.spec truncating-f64-to-i64-requires cast-result returns returns-2 returns-3 returns-4)
+as-i32-spec = tie.close (tie.spec truncating-f64-to-i64-requires cast-result returns returns-2 returns-3 returns-4)

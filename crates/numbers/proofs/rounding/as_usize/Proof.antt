@@ -6,9 +6,6 @@ use Rattle.numbers.proofs.rounding.as_usize.Tie as tie
 truncating-f64-to-u64-requires : tie.Need-truncating-f64-to-u64-requires
 truncating-f64-to-u64-requires c κs = laws.cast-in _ (c .before .if1 .taken) (c .if2 .taken)
 
-returns : tie.Need-returns
-returns c = search needs
-
 returns-2 : tie.Need-returns-2
 returns-2 c = laws.cast-above _ (c .before .if1 .taken) (c .if2 .left)
 
@@ -16,4 +13,4 @@ returns-3 : tie.Need-returns-3
 returns-3 c = laws.cast-below _ (c .if1 .left)
 
 pub as-usize-spec : {M : Type 1} → statement M
-as-usize-spec = tie.close (tie.spec truncating-f64-to-u64-requires returns returns-2 returns-3)
+as-usize-spec = tie.close (tie.spec truncating-f64-to-u64-requires (λ c. search needs) returns-2 returns-3)

@@ -17,9 +17,6 @@ ceil-positive-requires c κs = reals.above (c .before .args .x) (c .if1 .taken)
 floor-positive-requires : tie.Need-floor-positive-requires
 floor-positive-requires c κs = reals.neg-above (c .before .before .args .x) (c .if2 .taken)
 
-returns : tie.Need-returns
-returns c = search needs
-
 returns-2 : tie.Need-returns-2
 returns-2 c = ap neg (c .floor-positive .ensures) ∙ laws.neg-floor (c .before .before .before .args .x)
 
@@ -27,4 +24,4 @@ returns-3 : tie.Need-returns-3
 returns-3 c = sym (laws.still (c .before .before .args .x) (held (c .before .before)) (c .before .if1 .left) (c .if2 .left) .2)
 
 pub ceil-spec : {M : Type 1} → statement M
-ceil-spec = tie.close (tie.spec ceil-positive-requires floor-positive-requires returns returns-2 returns-3)
+ceil-spec = tie.close (tie.spec ceil-positive-requires floor-positive-requires (λ c. search needs) returns-2 returns-3)

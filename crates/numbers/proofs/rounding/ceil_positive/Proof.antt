@@ -17,17 +17,11 @@ at c = laws.small (c .before .args .x) (c .before .pre) (c .if1 .taken)
 truncating-f64-to-u64-requires : tie.Need-truncating-f64-to-u64-requires
 truncating-f64-to-u64-requires c κs = laws.single-range (c .before .args .x) (at c)
 
-nearest-u64-to-f64-requires : tie.Need-nearest-u64-to-f64-requires
-nearest-u64-to-f64-requires c κs = search needs
-
 add-nearest-u64-to-f64 : tie.Need-add-nearest-u64-to-f64
 add-nearest-u64-to-f64 c =
     let k = laws.cut-small (c .before .before .before .before .args .x) (at (c .before .before .before)) in
     let e = c .before .before .truncating-f64-to-u64 .ensures ∙ k .0 in
     record { fits = omega arith }
-
-nearest-u64-to-f64-requires-2 : tie.Need-nearest-u64-to-f64-requires-2
-nearest-u64-to-f64-requires-2 c κs = search needs
 
 returns : tie.Need-returns
 returns c =
@@ -47,5 +41,4 @@ returns-3 c = sym (laws.big (c .before .args .x) (held (c .before)) (c .before .
 
 pub ceil-positive-spec : {M : Type 1} → statement M
 ceil-positive-spec =
-    tie.close
-    (tie.spec truncating-f64-to-u64-requires nearest-u64-to-f64-requires add-nearest-u64-to-f64 nearest-u64-to-f64-requires-2 returns returns-2 returns-3)
+    tie.close (tie.spec truncating-f64-to-u64-requires (λ c κs. search needs) add-nearest-u64-to-f64 (λ c κs. search needs) returns returns-2 returns-3)

@@ -17,9 +17,6 @@ floor-positive-requires c κs = reals.above (c .before .args .x) (c .if1 .taken)
 ceil-positive-requires : tie.Need-ceil-positive-requires
 ceil-positive-requires c κs = reals.neg-above (c .before .before .args .x) (c .if2 .taken)
 
-returns : tie.Need-returns
-returns c = search needs
-
 returns-2 : tie.Need-returns-2
 returns-2 c = ap neg (c .ceil-positive .ensures) ∙ laws.neg-ceil (c .before .before .before .args .x)
 
@@ -27,4 +24,4 @@ returns-3 : tie.Need-returns-3
 returns-3 c = sym (laws.still (c .before .before .args .x) (held (c .before .before)) (c .before .if1 .left) (c .if2 .left) .1)
 
 pub floor-spec : {M : Type 1} → statement M
-floor-spec = tie.close (tie.spec floor-positive-requires ceil-positive-requires returns returns-2 returns-3)
+floor-spec = tie.close (tie.spec floor-positive-requires ceil-positive-requires (λ c. search needs) returns-2 returns-3)

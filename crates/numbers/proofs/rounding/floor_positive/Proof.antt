@@ -16,9 +16,6 @@ at c = laws.small (c .before .args .x) (c .before .pre) (c .if1 .taken)
 truncating-f64-to-u64-requires : tie.Need-truncating-f64-to-u64-requires
 truncating-f64-to-u64-requires c κs = laws.single-range (c .before .args .x) (at c)
 
-nearest-u64-to-f64-requires : tie.Need-nearest-u64-to-f64-requires
-nearest-u64-to-f64-requires c κs = search needs
-
 returns : tie.Need-returns
 returns c =
     c .nearest-u64-to-f64 .ensures
@@ -28,4 +25,4 @@ returns-2 : tie.Need-returns-2
 returns-2 c = sym (laws.big (c .before .args .x) (held (c .before)) (c .before .pre) (c .if1 .left) .1)
 
 pub floor-positive-spec : {M : Type 1} → statement M
-floor-positive-spec = tie.close (tie.spec truncating-f64-to-u64-requires nearest-u64-to-f64-requires returns returns-2)
+floor-positive-spec = tie.close (tie.spec truncating-f64-to-u64-requires (λ c κs. search needs) returns returns-2)

@@ -24,9 +24,6 @@ add-nearest-u64-to-f64 c =
     let e = c .truncating-f64-to-u64 .ensures ∙ k .0 in
     record { fits = omega arith }
 
-nearest-u64-to-f64-requires : tie.Need-nearest-u64-to-f64-requires
-nearest-u64-to-f64-requires c κs = search needs
-
 returns : tie.Need-returns
 returns c =
     c .nearest-u64-to-f64 .ensures
@@ -36,4 +33,5 @@ returns-2 : tie.Need-returns-2
 returns-2 c = sym (laws.big (c .before .args .x) (held (c .before)) (c .before .pre) (c .if1 .left) .0)
 
 pub half-up-spec : {M : Type 1} → statement M
-half-up-spec = tie.close (tie.spec truncating-f64-to-u64-requires add-nearest-u64-to-f64 nearest-u64-to-f64-requires returns returns-2)
+half-up-spec =
+    tie.close (tie.spec truncating-f64-to-u64-requires add-nearest-u64-to-f64 (λ c κs. search needs) returns returns-2)

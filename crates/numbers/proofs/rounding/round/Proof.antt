@@ -17,9 +17,6 @@ half-up-requires c κs = reals.above (c .before .args .x) (c .if1 .taken)
 half-up-requires-2 : tie.Need-half-up-requires-2
 half-up-requires-2 c κs = reals.neg-above (c .before .before .args .x) (c .if2 .taken)
 
-returns : tie.Need-returns
-returns c = search needs
-
 returns-2 : tie.Need-returns-2
 returns-2 c = ap neg (c .half-up2 .ensures) ∙ laws.neg-round (c .before .before .before .args .x)
 
@@ -27,4 +24,4 @@ returns-3 : tie.Need-returns-3
 returns-3 c = sym (laws.still (c .before .before .args .x) (held (c .before .before)) (c .before .if1 .left) (c .if2 .left) .0)
 
 pub round-spec : {M : Type 1} → statement M
-round-spec = tie.close (tie.spec half-up-requires half-up-requires-2 returns returns-2 returns-3)
+round-spec = tie.close (tie.spec half-up-requires half-up-requires-2 (λ c. search needs) returns-2 returns-3)

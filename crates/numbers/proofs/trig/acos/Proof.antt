@@ -45,12 +45,6 @@ loop-holds c = start (c .args .c)
 cos-requires : tie.Need-cos-requires Inv-loop μ-loop
 cos-requires c κs = tt
 
-sub-n : tie.Need-sub-n Inv-loop μ-loop
-sub-n c = omega arith
-
-loop-less : tie.Need-loop-less Inv-loop μ-loop
-loop-less c = omega arith
-
 loop-again : tie.Need-loop-again Inv-loop μ-loop
 loop-again c =
     let l = c .before .before .before .loop in
@@ -65,4 +59,5 @@ returns : tie.Need-returns Inv-loop μ-loop
 returns c = ended (c .before .before .args .c) (c .before .loop .lo) (c .before .loop .hi) (c .before .loop .n) (c .loop-test .left) ∙ c .before .loop .inv
 
 pub acos-spec : {M : Type 1} → statement M
-acos-spec = tie.close (tie.spec Inv-loop μ-loop loop-holds cos-requires sub-n loop-less loop-again returns)
+acos-spec =
+    tie.close (tie.spec Inv-loop μ-loop loop-holds cos-requires (λ c. omega arith) (λ c. omega arith) loop-again returns)

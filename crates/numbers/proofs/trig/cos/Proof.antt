@@ -4,11 +4,8 @@ use Rattle.numbers.specs.declared.trig.SinCos.{SinCos}
 use Rattle.numbers.proofs.trig.cos.Statement.{statement}
 use Rattle.numbers.proofs.trig.cos.Tie as tie
 
-sin-cos-requires : tie.Need-sin-cos-requires
-sin-cos-requires c κs = search needs
-
 returns : tie.Need-returns
 returns c = ap (λ (a : SinCos). a .cos) (c .sin-cos .ensures)
 
 pub cos-spec : {M : Type 1} → statement M
-cos-spec = tie.close (tie.spec sin-cos-requires returns)
+cos-spec = tie.close (tie.spec (λ c κs. search needs) returns)

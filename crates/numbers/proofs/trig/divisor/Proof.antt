@@ -12,26 +12,8 @@ use Rattle.numbers.proofs.trig.divisor.Tie as tie
 bound : (a b : ℕ) → a ≤ 16 → b ≤ 17 → a * b < 2 ^ 32
 bound a b h k = lt-of-le-of-lt (mul-le-mul {n₁ = a} {m₁ = b} {n₂ = 16} {m₂ = 17} h k) (lit< tt)
 
-mul-result : tie.Need-mul-result
-mul-result c = search needs
-
-mul-result-2 : tie.Need-mul-result-2
-mul-result-2 c = search needs
-
-add-result : tie.Need-add-result
-add-result c = search needs
-
 mul-result-3 : tie.Need-mul-result-3
 mul-result-3 c = record { fits = bound (2 * (c .before .args .j)) (2 * (c .before .args .j) + 1) (omega arith) (omega arith) }
-
-mul-result-4 : tie.Need-mul-result-4
-mul-result-4 c = search needs
-
-sub-result : tie.Need-sub-result
-sub-result c = search needs
-
-mul-result-5 : tie.Need-mul-result-5
-mul-result-5 c = search needs
 
 mul-result-6 : tie.Need-mul-result-6
 mul-result-6 c = record { fits = bound (2 * (c .before .args .j) - 1) (2 * (c .before .args .j)) (omega arith) (omega arith) }
@@ -44,15 +26,5 @@ returns-2 c = ap (λ (b : Bool). divisorOf b (c .before .args .j)) (sym (c .if1 
 
 pub divisor-spec : {M : Type 1} → statement M
 divisor-spec =
-    tie.close
-    (tie.spec
-    mul-result
-    mul-result-2
-    add-result
-    mul-result-3
-    mul-result-4
-    sub-result
-    mul-result-5
-    mul-result-6
-    returns
-    returns-2)
+    tie.close (tie.spec (λ c. search needs) (λ c. search needs) (λ c. search needs) mul-result-3 (λ c. search needs) (λ c. search needs) (λ c. search needs)
+    mul-result-6 returns returns-2)

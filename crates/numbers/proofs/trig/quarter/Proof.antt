@@ -17,9 +17,6 @@ quarter-up-requires-2 c κs = reals.neg-above (c .before .before .args .q) (c .i
 sub-result : tie.Need-sub-result
 sub-result c = let h = laws.quarter-lt (neg (c .before .before .before .args .q)) in let e = c .quarter-up2 .ensures in omega arith
 
-returns : tie.Need-returns
-returns c = search needs
-
 returns-2 : tie.Need-returns-2
 returns-2 c = ap (λ (z : ℕ). (4 - z) % 4) (c .quarter-up2 .ensures) ∙ laws.quarter-neg (c .before .before .before .args .q) (c .before .if2 .taken)
 
@@ -27,4 +24,5 @@ returns-3 : tie.Need-returns-3
 returns-3 c = laws.quarter-zero (c .before .before .args .q) (c .before .if1 .left) (c .if2 .left)
 
 pub quarter-spec : {M : Type 1} → statement M
-quarter-spec = tie.close (tie.spec quarter-up-requires quarter-up-requires-2 sub-result returns returns-2 returns-3)
+quarter-spec =
+    tie.close (tie.spec quarter-up-requires quarter-up-requires-2 sub-result (λ c. search needs) returns-2 returns-3)

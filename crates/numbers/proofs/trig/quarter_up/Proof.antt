@@ -12,7 +12,9 @@ truncating-f64-to-u64-requires : tie.Need-truncating-f64-to-u64-requires
 truncating-f64-to-u64-requires c κs = laws.quarter-range (c .before .args .q) (c .before .pre) (c .if1 .taken)
 
 returns : tie.Need-returns
-returns c = laws.quarter-is (c .before .before .args .q) (c .before .before .pre) (c .before .if1 .taken) (c .truncating-f64-to-u64 .result) (c .truncating-f64-to-u64 .ensures)
+returns c =
+    let start = c .before .before in
+    laws.quarter-is (start .args .q) (start .pre) (c .before .if1 .taken) (c .truncating-f64-to-u64 .result) (c .truncating-f64-to-u64 .ensures)
 
 returns-2 : tie.Need-returns-2
 returns-2 c = laws.quarter-big (c .before .args .q) (held (c .before)) (c .before .pre) (c .if1 .left)

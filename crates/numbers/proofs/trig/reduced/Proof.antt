@@ -21,19 +21,13 @@ rest (suc (suc (suc k))) s c a b d = refl
 
 -- where the value to match on is known
 all : (c : tie.After-quarter) → turned (c .quarter .result) (mul binary64 (c .before .before .before .args .r) (c .before .before .series .result)) (c .before .series2 .result) ≡ reducedOf (c .before .before .before .args .q) (c .before .before .before .args .r)
-all c = is (c .before .before .before .args .q) (c .before .before .before .args .r) (c .before .before .series .result) (c .before .series2 .result) (c .quarter .result) (c .quarter .ensures) (c .before .before .series .ensures) (c .before .series2 .ensures)
+all c =
+    let start = c .before .before .before in
+    is (start .args .q) (start .args .r) (c .before .before .series .result) (c .before .series2 .result) (c .quarter .result) (c .quarter .ensures)
+    (c .before .before .series .ensures) (c .before .series2 .ensures)
 
 abbrev at : tie.After-quarter → ℕ → SinCos
 at c k = turned k (mul binary64 (c .before .before .before .args .r) (c .before .before .series .result)) (c .before .series2 .result)
-
-series-requires : tie.Need-series-requires
-series-requires c κs = search needs
-
-series-requires-2 : tie.Need-series-requires-2
-series-requires-2 c κs = search needs
-
-quarter-requires : tie.Need-quarter-requires
-quarter-requires c κs = search needs
 
 returns : tie.Need-returns
 returns c = ap (at (c .before)) (sym (c .match .keys1)) ∙ all (c .before)
@@ -48,4 +42,5 @@ returns-4 : tie.Need-returns-4
 returns-4 c = rest (c .before .quarter .result) _ _ (c .match .rest .0 .0 .1) (c .match .rest .0 .1) (c .match .rest .1) ∙ all (c .before)
 
 pub reduced-spec : {M : Type 1} → statement M
-reduced-spec = tie.close (tie.spec series-requires series-requires-2 quarter-requires returns returns-2 returns-3 returns-4)
+reduced-spec =
+    tie.close (tie.spec (λ c κs. search needs) (λ c κs. search needs) (λ c κs. search needs) returns returns-2 returns-3 returns-4)

@@ -35,17 +35,8 @@ abbrev μ-loop : tie.MeasureT-loop
 loop-holds : tie.Need-loop-holds Inv-loop μ-loop
 loop-holds c = (omega arith, refl)
 
-divisor-requires : tie.Need-divisor-requires Inv-loop μ-loop
-divisor-requires c κs = omega arith
-
 int-to-float-s : tie.Need-int-to-float-s Inv-loop μ-loop
 int-to-float-s c = tt
-
-sub-j : tie.Need-sub-j Inv-loop μ-loop
-sub-j c = omega arith
-
-loop-less : tie.Need-loop-less Inv-loop μ-loop
-loop-less c = omega arith
 
 loop-again : tie.Need-loop-again Inv-loop μ-loop
 loop-again c =
@@ -55,18 +46,10 @@ loop-again c =
     (omega arith, ap (λ (n : ℕ). seriesFrom (a .sine) (a .w) (l .j - 1) (step (a .w) (l .s) n)) (d .ensures) ∙ sym (turn (a .sine) (a .w) (l .s) (l .j) (c .before .before .loop-test .taken)) ∙ l .inv .1)
 
 returns : tie.Need-returns Inv-loop μ-loop
-returns c = ended (c .before .before .args .sine) (c .before .before .args .w) (c .before .loop .s) (c .before .loop .j) (c .loop-test .left) ∙ c .before .loop .inv .1
+returns c =
+    let start = c .before .before in
+    ended (start .args .sine) (start .args .w) (c .before .loop .s) (c .before .loop .j) (c .loop-test .left) ∙ c .before .loop .inv .1
 
 pub series-spec : {M : Type 1} → statement M
 series-spec =
-    tie.close
-    (tie.spec
-    Inv-loop
-    μ-loop
-    loop-holds
-    divisor-requires
-    int-to-float-s
-    sub-j
-    loop-less
-    loop-again
-    returns)
+    tie.close (tie.spec Inv-loop μ-loop loop-holds (λ c κs. omega arith) int-to-float-s (λ c. omega arith) (λ c. omega arith) loop-again returns)

@@ -24,12 +24,6 @@ within : (t q : Float) (a : SinCos) → lt thousand t ≡ false → lt t (neg th
 unfolding sincosOf sincosIn
 within t q a g h e f = rw (g, h) (f ∙ ap (λ (z : Float). reducedOf z (sub binary64 t (mul binary64 z H))) e)
 
-round-requires : tie.Need-round-requires
-round-requires c κs = search needs
-
-reduced-requires : tie.Need-reduced-requires
-reduced-requires c κs = search needs
-
 returns : tie.Need-returns
 returns c = over (c .before .args .t) (c .if1 .taken)
 
@@ -37,7 +31,9 @@ returns-2 : tie.Need-returns-2
 returns-2 c = under (c .before .before .args .t) (c .before .if1 .left) (c .if2 .taken)
 
 returns-3 : tie.Need-returns-3
-returns-3 c = within (c .before .before .before .before .args .t) (c .before .round .result) (c .reduced .result) (c .before .before .before .if1 .left) (c .before .before .if2 .left) (c .before .round .ensures) (c .reduced .ensures)
+returns-3 c =
+    within (c .before .before .before .before .args .t) (c .before .round .result) (c .reduced .result) (c .before .before .before .if1 .left)
+    (c .before .before .if2 .left) (c .before .round .ensures) (c .reduced .ensures)
 
 pub sin-cos-spec : {M : Type 1} → statement M
-sin-cos-spec = tie.close (tie.spec round-requires reduced-requires returns returns-2 returns-3)
+sin-cos-spec = tie.close (tie.spec (λ c κs. search needs) (λ c κs. search needs) returns returns-2 returns-3)

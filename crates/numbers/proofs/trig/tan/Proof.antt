@@ -6,12 +6,9 @@ use Rattle.numbers.specs.Trig.{tanOf}
 use Rattle.numbers.proofs.trig.tan.Statement.{statement}
 use Rattle.numbers.proofs.trig.tan.Tie as tie
 
-sin-cos-requires : tie.Need-sin-cos-requires
-sin-cos-requires c κs = search needs
-
 returns : tie.Need-returns
 unfolding tanOf
 returns c = ap (λ (a : SinCos). div binary64 (a .sin) (a .cos)) (c .before .sin-cos .ensures)
 
 pub tan-spec : {M : Type 1} → statement M
-tan-spec = tie.close (tie.spec sin-cos-requires returns)
+tan-spec = tie.close (tie.spec (λ c κs. search needs) returns)

@@ -1,9 +1,7 @@
 use native.Mathlib.Omega.{arith}
-use mathlib.Core.Path.{_≡_}
-use Prim.Native.Nat.{_+_, _-_, _*_, _<_}
-use lib.ListN.{length}
+use Prim.Native.Nat.{_-_}
 use borrow.Author.Tests.{not-true, not-false}
-use Rattle.records.specs.Face.{headReals, points, needed}
+use Rattle.records.specs.Face.{headReals}
 use Rattle.records.proofs.Reals as reals
 use borrow.Author.Needs.{needs}
 use Rattle.records.proofs.check.bad_head.Statement.{statement}
@@ -15,45 +13,15 @@ Inv-loop face kind at i₀ i = reals.Scan face 0 headReals kind at i
 abbrev μ-loop : tie.MeasureT-loop
 μ-loop face kind at i₀ i = headReals - i
 
-shared-slice-read-wide : tie.Need-shared-slice-read-wide Inv-loop μ-loop
-shared-slice-read-wide c = omega arith
-
-wide-requires : tie.Need-wide-requires Inv-loop μ-loop
-wide-requires c κs = search needs
-
-loops-requires : tie.Need-loops-requires Inv-loop μ-loop
-loops-requires c κs = search needs
-
-mul-at : tie.Need-mul-at Inv-loop μ-loop
-mul-at c = omega arith
-
-add-at : tie.Need-add-at Inv-loop μ-loop
-add-at c = omega arith
-
 loop-holds : tie.Need-loop-holds Inv-loop μ-loop
 loop-holds c = reals.scan-start (c .before .wide .ensures .0) (omega arith)
 
 mul-real-at : tie.Need-mul-real-at Inv-loop μ-loop
 mul-real-at c = let z = c .before .loop .inv .seeking .far in omega arith
 
-add-real-at : tie.Need-add-real-at Inv-loop μ-loop
-add-real-at c = omega arith
-
-real-at-requires : tie.Need-real-at-requires Inv-loop μ-loop
-real-at-requires c κs = search needs
-
-head-holds-requires : tie.Need-head-holds-requires Inv-loop μ-loop
-head-holds-requires c κs = search needs
-
 returns : tie.Need-returns Inv-loop μ-loop
 returns c =
     let w = c .before .before .before .before .loop .inv in reals.scan-found w (c .before .before .before .loop-test .taken) (c .before .before .real-at .ensures) (c .before .head-holds .ensures) (reals.head-range w (omega arith)) (not-true _ (c .if1 .taken))
-
-add-i : tie.Need-add-i Inv-loop μ-loop
-add-i c = omega arith
-
-loop-less : tie.Need-loop-less Inv-loop μ-loop
-loop-less c = omega arith
 
 loop-again : tie.Need-loop-again Inv-loop μ-loop
 loop-again c =
@@ -64,22 +32,5 @@ returns-2 c = reals.scan-end (c .before .loop .inv) (c .loop-test .left)
 
 pub bad-head-spec : {M : Type 1} → statement M
 bad-head-spec =
-    tie.close
-    (tie.spec
-    Inv-loop
-    μ-loop
-    shared-slice-read-wide
-    wide-requires
-    loops-requires
-    mul-at
-    add-at
-    loop-holds
-    mul-real-at
-    add-real-at
-    real-at-requires
-    head-holds-requires
-    returns
-    add-i
-    loop-less
-    loop-again
-    returns-2)
+    tie.close (tie.spec Inv-loop μ-loop (λ c. omega arith) (λ c κs. search needs) (λ c κs. search needs) (λ c. omega arith) (λ c. omega arith) loop-holds
+    mul-real-at (λ c. omega arith) (λ c κs. search needs) (λ c κs. search needs) returns (λ c. omega arith) (λ c. omega arith) loop-again returns-2)

@@ -1,9 +1,8 @@
 use native.Mathlib.Omega.{arith}
-use mathlib.Core.Path.{_≡_, refl}
-use Prim.Native.Nat.{_+_, _-_, _*_, _<_}
-use lib.ListN.{length}
+use mathlib.Core.Path.{refl}
+use Prim.Native.Nat.{_+_, _-_, _*_}
 use borrow.Author.Tests.{not-true, not-false}
-use Rattle.records.specs.Face.{headReals, kind, points, needed}
+use Rattle.records.specs.Face.{headReals, kind}
 use Rattle.records.proofs.Reals as reals
 use borrow.Author.Needs.{needs}
 use Rattle.records.proofs.check.bad_position.Statement.{statement}
@@ -15,54 +14,12 @@ Inv-loop face n at j₀ j = reals.Scan face (headReals + 2 * n) (3 * n) (kind fa
 abbrev μ-loop : tie.MeasureT-loop
 μ-loop face n at j₀ j = 3 * n - j
 
-loops-requires : tie.Need-loops-requires Inv-loop μ-loop
-loops-requires c κs = search needs
-
-mul-at : tie.Need-mul-at Inv-loop μ-loop
-mul-at c = omega arith
-
-add-at : tie.Need-add-at Inv-loop μ-loop
-add-at c = omega arith
-
-mul-at-2 : tie.Need-mul-at-2 Inv-loop μ-loop
-mul-at-2 c = omega arith
-
-add-at-2 : tie.Need-add-at-2 Inv-loop μ-loop
-add-at-2 c = omega arith
-
-mul-at-3 : tie.Need-mul-at-3 Inv-loop μ-loop
-mul-at-3 c = omega arith
-
-add-at-3 : tie.Need-add-at-3 Inv-loop μ-loop
-add-at-3 c = omega arith
-
 loop-holds : tie.Need-loop-holds Inv-loop μ-loop
 loop-holds c = reals.scan-start refl (omega arith)
-
-mul-loop : tie.Need-mul-loop Inv-loop μ-loop
-mul-loop c = omega arith
-
-mul-real-at : tie.Need-mul-real-at Inv-loop μ-loop
-mul-real-at c = omega arith
-
-add-real-at : tie.Need-add-real-at Inv-loop μ-loop
-add-real-at c = omega arith
-
-real-at-requires : tie.Need-real-at-requires Inv-loop μ-loop
-real-at-requires c κs = search needs
-
-xyz-holds-requires : tie.Need-xyz-holds-requires Inv-loop μ-loop
-xyz-holds-requires c κs = search needs
 
 returns : tie.Need-returns Inv-loop μ-loop
 returns c =
     let w = c .before .before .before .before .loop .inv in reals.scan-found w (c .before .before .before .loop-test .taken) (c .before .before .real-at .ensures) (c .before .xyz-holds .ensures) (reals.xyz-range _ _ _ (c .before .before .before .before .before .before .before .pre .1)) (not-true _ (c .if1 .taken))
-
-add-j : tie.Need-add-j Inv-loop μ-loop
-add-j c = omega arith
-
-loop-less : tie.Need-loop-less Inv-loop μ-loop
-loop-less c = omega arith
 
 loop-again : tie.Need-loop-again Inv-loop μ-loop
 loop-again c =
@@ -73,25 +30,6 @@ returns-2 c = reals.scan-end (c .before .loop .inv) (c .loop-test .left)
 
 pub bad-position-spec : {M : Type 1} → statement M
 bad-position-spec =
-    tie.close
-    (tie.spec
-    Inv-loop
-    μ-loop
-    loops-requires
-    mul-at
-    add-at
-    mul-at-2
-    add-at-2
-    mul-at-3
-    add-at-3
-    loop-holds
-    mul-loop
-    mul-real-at
-    add-real-at
-    real-at-requires
-    xyz-holds-requires
-    returns
-    add-j
-    loop-less
-    loop-again
-    returns-2)
+    tie.close (tie.spec Inv-loop μ-loop (λ c κs. search needs) (λ c. omega arith) (λ c. omega arith) (λ c. omega arith) (λ c. omega arith) (λ c. omega arith)
+    (λ c. omega arith) loop-holds (λ c. omega arith) (λ c. omega arith) (λ c. omega arith) (λ c κs. search needs) (λ c κs. search needs) returns
+    (λ c. omega arith) (λ c. omega arith) loop-again returns-2)

@@ -64,101 +64,56 @@ past-6 c = not-found (c .before .before .wrong-length .ensures) (c .enum-told6 .
 past-7 : (c : tie.After-enum-told7) → firstBadReal (face-7 c) ≡ nowhere
 past-7 c = not-found (c .before .before .first-bad-real .ensures) (c .enum-told7 .given .1)
 
-wrong-header-requires : tie.Need-wrong-header-requires
-wrong-header-requires c κs = search needs
-
-enum-known-p : tie.Need-enum-known-p
-enum-known-p c = search needs
-
 returns : tie.Need-returns
 unfolding verdict
 returns c = rw (found (c .before .before .before .wrong-header .ensures) (c .before .p .given .1))
 
-enum-told : tie.Need-enum-told
-enum-told c = search needs
-
 too-many-loops-requires : tie.Need-too-many-loops-requires
 too-many-loops-requires c κs = counting.header-there _ (past-1 c)
-
-enum-known-l : tie.Need-enum-known-l
-enum-known-l c = search needs
 
 returns-2 : tie.Need-returns-2
 unfolding verdict
 returns-2 c = rw (past-1 (c .before .before .before .before), found (c .before .before .before .too-many-loops .ensures) (c .before .l .given .1))
 
-enum-told-2 : tie.Need-enum-told-2
-enum-told-2 c = search needs
-
 ends-in-counts-requires : tie.Need-ends-in-counts-requires
 ends-in-counts-requires c κs = counting.header-there _ (past-1 (c .before .before .before))
-
-enum-known-n : tie.Need-enum-known-n
-enum-known-n c = search needs
 
 returns-3 : tie.Need-returns-3
 unfolding verdict
 returns-3 c =
     rw (past-1 (c .before .before .before .before .before .before .before), past-2 (c .before .before .before .before), found (c .before .before .before .ends-in-counts .ensures) (c .before .n .given .1))
 
-enum-told-3 : tie.Need-enum-told-3
-enum-told-3 c = search needs
-
 too-few-points-requires : tie.Need-too-few-points-requires
 too-few-points-requires c κs = counting.counts-there _ (past-3 c)
-
-enum-known-k : tie.Need-enum-known-k
-enum-known-k c = search needs
 
 returns-4 : tie.Need-returns-4
 unfolding verdict
 returns-4 c =
     rw (past-1 (c .before .before .before .before .before .before .before .before .before .before), past-2 (c .before .before .before .before .before .before .before), past-3 (c .before .before .before .before), found (c .before .before .before .too-few-points .ensures) (c .before .k .given .1))
 
-enum-told-4 : tie.Need-enum-told-4
-enum-told-4 c = search needs
-
 too-many-points-requires : tie.Need-too-many-points-requires
 too-many-points-requires c κs = counting.counts-there _ (past-3 (c .before .before .before))
-
-enum-known-k-2 : tie.Need-enum-known-k-2
-enum-known-k-2 c = search needs
 
 returns-5 : tie.Need-returns-5
 unfolding verdict
 returns-5 c =
     rw (past-1 (c .before .before .before .before .before .before .before .before .before .before .before .before .before), past-2 (c .before .before .before .before .before .before .before .before .before .before), past-3 (c .before .before .before .before .before .before .before), past-4 (c .before .before .before .before), found (c .before .before .before .too-many-points .ensures) (c .before .k2 .given .1))
 
-enum-told-5 : tie.Need-enum-told-5
-enum-told-5 c = search needs
-
 wrong-length-requires : tie.Need-wrong-length-requires
 wrong-length-requires c κs = counting.counts-there _ (past-3 (c .before .before .before .before .before .before))
-
-enum-known-n-2 : tie.Need-enum-known-n-2
-enum-known-n-2 c = search needs
 
 returns-6 : tie.Need-returns-6
 unfolding verdict
 returns-6 c =
     rw (past-1 (c .before .before .before .before .before .before .before .before .before .before .before .before .before .before .before .before), past-2 (c .before .before .before .before .before .before .before .before .before .before .before .before .before), past-3 (c .before .before .before .before .before .before .before .before .before .before), past-4 (c .before .before .before .before .before .before .before), past-5 (c .before .before .before .before), found (c .before .before .before .wrong-length .ensures) (c .before .n2 .given .1))
 
-enum-told-6 : tie.Need-enum-told-6
-enum-told-6 c = search needs
-
 first-bad-real-requires : tie.Need-first-bad-real-requires
 first-bad-real-requires c κs = counting.all-there _ (past-6 c)
-
-enum-known-i : tie.Need-enum-known-i
-enum-known-i c = search needs
 
 returns-7 : tie.Need-returns-7
 unfolding verdict
 returns-7 c =
     rw (past-1 (c .before .before .before .before .before .before .before .before .before .before .before .before .before .before .before .before .before .before .before), past-2 (c .before .before .before .before .before .before .before .before .before .before .before .before .before .before .before .before), past-3 (c .before .before .before .before .before .before .before .before .before .before .before .before .before), past-4 (c .before .before .before .before .before .before .before .before .before .before), past-5 (c .before .before .before .before .before .before .before), past-6 (c .before .before .before .before), found (c .before .before .before .first-bad-real .ensures) (c .before .i .given .1))
-
-enum-told-7 : tie.Need-enum-told-7
-enum-told-7 c = search needs
 
 returns-8 : tie.Need-returns-8
 unfolding verdict
@@ -167,34 +122,7 @@ returns-8 c =
 
 pub check-spec : {M : Type 1} → statement M
 check-spec =
-    tie.close
-    (tie.spec
-    wrong-header-requires
-    enum-known-p
-    returns
-    enum-told
-    too-many-loops-requires
-    enum-known-l
-    returns-2
-    enum-told-2
-    ends-in-counts-requires
-    enum-known-n
-    returns-3
-    enum-told-3
-    too-few-points-requires
-    enum-known-k
-    returns-4
-    enum-told-4
-    too-many-points-requires
-    enum-known-k-2
-    returns-5
-    enum-told-5
-    wrong-length-requires
-    enum-known-n-2
-    returns-6
-    enum-told-6
-    first-bad-real-requires
-    enum-known-i
-    returns-7
-    enum-told-7
-    returns-8)
+    tie.close (tie.spec (λ c κs. search needs) (λ c. search needs) returns (λ c. search needs) too-many-loops-requires (λ c. search needs) returns-2
+    (λ c. search needs) ends-in-counts-requires (λ c. search needs) returns-3 (λ c. search needs) too-few-points-requires (λ c. search needs) returns-4
+    (λ c. search needs) too-many-points-requires (λ c. search needs) returns-5 (λ c. search needs) wrong-length-requires (λ c. search needs) returns-6
+    (λ c. search needs) first-bad-real-requires (λ c. search needs) returns-7 (λ c. search needs) returns-8)

@@ -4,15 +4,6 @@ use borrow.Author.Needs.{needs}
 use Rattle.records.proofs.check.ends_in_counts.Statement.{statement}
 use Rattle.records.proofs.check.ends_in_counts.Tie as tie
 
-loops-requires : tie.Need-loops-requires
-loops-requires c κs = search needs
-
-mul-end : tie.Need-mul-end
-mul-end c = search needs
-
-add-end : tie.Need-add-end
-add-end c = search needs
-
 returns : tie.Need-returns
 returns c = counting.in-counts _ (omega arith) (c .if1 .taken)
 
@@ -20,4 +11,5 @@ returns-2 : tie.Need-returns-2
 returns-2 c = counting.past-counts _ (omega arith) (c .if1 .left)
 
 pub ends-in-counts-spec : {M : Type 1} → statement M
-ends-in-counts-spec = tie.close (tie.spec loops-requires mul-end add-end returns returns-2)
+ends-in-counts-spec =
+    tie.close (tie.spec (λ c κs. search needs) (λ c. search needs) (λ c. search needs) returns returns-2)

@@ -7,38 +7,23 @@ use borrow.Author.Needs.{needs}
 use Rattle.records.proofs.check.head_holds.Statement.{statement}
 use Rattle.records.proofs.check.head_holds.Tie as tie
 
-between-requires : tie.Need-between-requires
-between-requires c κs = search needs
-
 returns : tie.Need-returns
 unfolding headRange ofBits ofFields odd neg
 returns c = within _ _ _ _ _ (rw (lt-ltb _ _ (c .before .if1 .taken))) refl refl (c .between .ensures)
 
-radius-holds-requires : tie.Need-radius-holds-requires
-radius-holds-requires c κs = search needs
-
 returns-2 : tie.Need-returns-2
 unfolding headRange
 returns-2 c = held _ _ _ _ (rw (le-ltb _ _ (c .before .before .if1 .left), eq-eqb _ _ (c .before .if2 .taken))) (c .radius-holds .ensures)
-
-second-holds-requires : tie.Need-second-holds-requires
-second-holds-requires c κs = search needs
 
 returns-3 : tie.Need-returns-3
 unfolding headRange
 returns-3 c =
     held _ _ _ _ (rw (le-ltb _ _ (c .before .before .before .if1 .left), ne-eqb _ _ (c .before .before .if2 .left), eq-eqb _ _ (c .before .if3 .taken))) (c .second-holds .ensures)
 
-between-requires-2 : tie.Need-between-requires-2
-between-requires-2 c κs = search needs
-
 returns-4 : tie.Need-returns-4
 unfolding headRange ofBits ofFields odd neg
 returns-4 c =
     within _ _ _ _ _ (rw (le-ltb _ _ (c .before .before .before .before .if1 .left), ne-eqb _ _ (c .before .before .before .if2 .left), ne-eqb _ _ (c .before .before .if3 .left), eq-eqb _ _ (c .before .if4 .taken))) refl refl (c .between2 .ensures)
-
-between-requires-3 : tie.Need-between-requires-3
-between-requires-3 c κs = search needs
 
 returns-5 : tie.Need-returns-5
 unfolding headRange ofBits ofFields odd neg
@@ -47,15 +32,5 @@ returns-5 c =
 
 pub head-holds-spec : {M : Type 1} → statement M
 head-holds-spec =
-    tie.close
-    (tie.spec
-    between-requires
-    returns
-    radius-holds-requires
-    returns-2
-    second-holds-requires
-    returns-3
-    between-requires-2
-    returns-4
-    between-requires-3
-    returns-5)
+    tie.close (tie.spec (λ c κs. search needs) returns (λ c κs. search needs) returns-2 (λ c κs. search needs) returns-3 (λ c κs. search needs) returns-4
+    (λ c κs. search needs) returns-5)

@@ -7,22 +7,13 @@ use borrow.Author.Needs.{needs}
 use Rattle.records.proofs.check.radius_holds.Statement.{statement}
 use Rattle.records.proofs.check.radius_holds.Tie as tie
 
-between-requires : tie.Need-between-requires
-between-requires c κs = search needs
-
 returns : tie.Need-returns
 unfolding radius ofBits ofFields odd neg
 returns c = within _ _ _ _ _ (rw (eq-eqb _ _ (c .before .if1 .taken))) refl refl (c .between .ensures)
 
-between-requires-2 : tie.Need-between-requires-2
-between-requires-2 c κs = search needs
-
 returns-2 : tie.Need-returns-2
 unfolding radius ofBits ofFields odd neg
 returns-2 c = within _ _ _ _ _ (rw (ne-eqb _ _ (c .before .before .if1 .left), eq-eqb _ _ (c .before .if2 .taken))) refl refl (c .between2 .ensures)
-
-between-requires-3 : tie.Need-between-requires-3
-between-requires-3 c κs = search needs
 
 returns-3 : tie.Need-returns-3
 unfolding radius ofBits ofFields odd neg
@@ -30,5 +21,4 @@ returns-3 c = within _ _ _ _ _ (rw (ne-eqb _ _ (c .before .before .if1 .left), n
 
 pub radius-holds-spec : {M : Type 1} → statement M
 radius-holds-spec =
-    tie.close
-    (tie.spec between-requires returns between-requires-2 returns-2 between-requires-3 returns-3)
+    tie.close (tie.spec (λ c κs. search needs) returns (λ c κs. search needs) returns-2 (λ c κs. search needs) returns-3)

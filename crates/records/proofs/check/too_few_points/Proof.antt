@@ -14,23 +14,11 @@ Inv-loop face l k₀ k = Seeking (counting.fewAt face) (loops face) k × ((l ≡
 abbrev μ-loop : tie.MeasureT-loop
 μ-loop face l k₀ k = l - k
 
-loops-requires : tie.Need-loops-requires Inv-loop μ-loop
-loops-requires c κs = search needs
-
 loop-holds : tie.Need-loop-holds Inv-loop μ-loop
 loop-holds c = (seek-start, c .loops .ensures)
 
-count-at-requires : tie.Need-count-at-requires Inv-loop μ-loop
-count-at-requires c κs = search needs
-
 returns : tie.Need-returns Inv-loop μ-loop
 returns c = counting.few-found _ (c .before .before .before .loop .inv .0) (omega arith) (c .before .count-at .ensures .0) (c .if1 .taken)
-
-add-k : tie.Need-add-k Inv-loop μ-loop
-add-k c = omega arith
-
-loop-less : tie.Need-loop-less Inv-loop μ-loop
-loop-less c = omega arith
 
 loop-again : tie.Need-loop-again Inv-loop μ-loop
 loop-again c =
@@ -41,15 +29,5 @@ returns-2 c = counting.few-end _ (c .before .loop .inv .0) (omega arith)
 
 pub too-few-points-spec : {M : Type 1} → statement M
 too-few-points-spec =
-    tie.close
-    (tie.spec
-    Inv-loop
-    μ-loop
-    loops-requires
-    loop-holds
-    count-at-requires
-    returns
-    add-k
-    loop-less
-    loop-again
+    tie.close (tie.spec Inv-loop μ-loop (λ c κs. search needs) loop-holds (λ c κs. search needs) returns (λ c. omega arith) (λ c. omega arith) loop-again
     returns-2)

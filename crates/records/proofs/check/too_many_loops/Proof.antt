@@ -3,9 +3,6 @@ use borrow.Author.Needs.{needs}
 use Rattle.records.proofs.check.too_many_loops.Statement.{statement}
 use Rattle.records.proofs.check.too_many_loops.Tie as tie
 
-loops-requires : tie.Need-loops-requires
-loops-requires c κs = search needs
-
 returns : tie.Need-returns
 returns c = counting.many-loops _ _ (c .before .before .loops .ensures .0) (c .if1 .taken)
 
@@ -13,4 +10,4 @@ returns-2 : tie.Need-returns-2
 returns-2 c = counting.few-loops _ _ (c .before .before .loops .ensures .0) (c .if1 .left)
 
 pub too-many-loops-spec : {M : Type 1} → statement M
-too-many-loops-spec = tie.close (tie.spec loops-requires returns returns-2)
+too-many-loops-spec = tie.close (tie.spec (λ c κs. search needs) returns returns-2)

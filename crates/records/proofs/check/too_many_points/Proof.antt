@@ -13,26 +13,11 @@ Inv-loop face limits l total₀ k₀ total k = counting.Totalling limits face to
 abbrev μ-loop : tie.MeasureT-loop
 μ-loop face limits l total₀ k₀ total k = l - k
 
-loops-requires : tie.Need-loops-requires Inv-loop μ-loop
-loops-requires c κs = search needs
-
 loop-holds : tie.Need-loop-holds Inv-loop μ-loop
 loop-holds c = (counting.total-start, c .loops .ensures)
 
-count-at-requires : tie.Need-count-at-requires Inv-loop μ-loop
-count-at-requires c κs = search needs
-
-add-total : tie.Need-add-total Inv-loop μ-loop
-add-total c = omega arith
-
 returns : tie.Need-returns Inv-loop μ-loop
 returns c = counting.total-found (c .before .before .before .before .loop .inv .0) (omega arith) (c .before .before .count-at .ensures .0) (c .if1 .taken)
-
-add-k : tie.Need-add-k Inv-loop μ-loop
-add-k c = omega arith
-
-loop-less : tie.Need-loop-less Inv-loop μ-loop
-loop-less c = omega arith
 
 loop-again : tie.Need-loop-again Inv-loop μ-loop
 loop-again c =
@@ -43,16 +28,5 @@ returns-2 c = counting.total-end (c .before .loop .inv .0) (omega arith)
 
 pub too-many-points-spec : {M : Type 1} → statement M
 too-many-points-spec =
-    tie.close
-    (tie.spec
-    Inv-loop
-    μ-loop
-    loops-requires
-    loop-holds
-    count-at-requires
-    add-total
-    returns
-    add-k
-    loop-less
-    loop-again
-    returns-2)
+    tie.close (tie.spec Inv-loop μ-loop (λ c κs. search needs) loop-holds (λ c κs. search needs) (λ c. omega arith) returns (λ c. omega arith)
+    (λ c. omega arith) loop-again returns-2)

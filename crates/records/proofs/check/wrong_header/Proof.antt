@@ -8,38 +8,23 @@ returns : tie.Need-returns
 unfolding wrongHeader wrongByte firstFrom
 returns c = rw (lt-ltb _ _ (c .if1 .taken))
 
-shared-slice-read-if2 : tie.Need-shared-slice-read-if2
-shared-slice-read-if2 c = search needs
-
 returns-2 : tie.Need-returns-2
 unfolding wrongHeader wrongByte firstFrom
 returns-2 c = rw (le-ltb _ _ (c .before .before .if1 .left), ne-eqb _ _ (c .if2 .taken))
 
-shared-slice-read-if3 : tie.Need-shared-slice-read-if3
-shared-slice-read-if3 c = search needs
-
 returns-3 : tie.Need-returns-3
 unfolding wrongHeader wrongByte firstFrom
 returns-3 c = rw (le-ltb _ _ (c .before .before .before .before .if1 .left), eq-eqb _ _ (c .before .before .if2 .left), lt-ltb _ _ (c .if3 .taken))
-
-shared-slice-read-if4 : tie.Need-shared-slice-read-if4
-shared-slice-read-if4 c = search needs
 
 returns-4 : tie.Need-returns-4
 unfolding wrongHeader wrongByte firstFrom
 returns-4 c =
     rw (le-ltb _ _ (c .before .before .before .before .before .before .if1 .left), eq-eqb _ _ (c .before .before .before .before .if2 .left), le-ltb _ _ (c .before .before .if3 .left), lt-ltb _ _ (c .if4 .taken))
 
-shared-slice-read-if5 : tie.Need-shared-slice-read-if5
-shared-slice-read-if5 c = search needs
-
 returns-5 : tie.Need-returns-5
 unfolding wrongHeader wrongByte firstFrom
 returns-5 c =
     rw (le-ltb _ _ (c .before .before .before .before .before .before .before .before .if1 .left), eq-eqb _ _ (c .before .before .before .before .before .before .if2 .left), le-ltb _ _ (c .before .before .before .before .if3 .left), le-ltb _ _ (c .before .before .if4 .left), lt-ltb _ _ (c .if5 .taken))
-
-shared-slice-read-if6 : tie.Need-shared-slice-read-if6
-shared-slice-read-if6 c = search needs
 
 returns-6 : tie.Need-returns-6
 unfolding wrongHeader wrongByte firstFrom
@@ -53,17 +38,5 @@ returns-7 c =
 
 pub wrong-header-spec : {M : Type 1} → statement M
 wrong-header-spec =
-    tie.close
-    (tie.spec
-    returns
-    shared-slice-read-if2
-    returns-2
-    shared-slice-read-if3
-    returns-3
-    shared-slice-read-if4
-    returns-4
-    shared-slice-read-if5
-    returns-5
-    shared-slice-read-if6
-    returns-6
-    returns-7)
+    tie.close (tie.spec returns (λ c. search needs) returns-2 (λ c. search needs) returns-3 (λ c. search needs) returns-4 (λ c. search needs) returns-5
+    (λ c. search needs) returns-6 returns-7)

@@ -18,18 +18,10 @@ returns : tie.Need-returns
 unfolding countsThere
 returns c = rw (lt-leb _ _ (short c))
 
-loops-requires : tie.Need-loops-requires
-loops-requires c κs = search needs
-
-mul-result : tie.Need-mul-result
-mul-result c = search needs
-
-add-result : tie.Need-add-result
-add-result c = search needs
-
 returns-2 : tie.Need-returns-2
 unfolding countsThere
 returns-2 c = ap (λ (n : ℕ). leb (headerSize + 2 * n) (length (now (c .before .before .before .args .face)))) (c .loops .ensures .0)
 
 pub counts-there-spec : {M : Type 1} → statement M
-counts-there-spec = tie.close (tie.spec returns loops-requires mul-result add-result returns-2)
+counts-there-spec =
+    tie.close (tie.spec returns (λ c κs. search needs) (λ c. search needs) (λ c. search needs) returns-2)

@@ -2,15 +2,9 @@ use borrow.Author.Needs.{needs}
 use Prim.Native.Nat.{_-_}
 use mathlib.Core.Path.{refl}
 use native.Mathlib.Omega.{arith}
-use borrow.Author.Needs.{needs}
 use Rattle.records.proofs.Columns as columns
 use Rattle.records.proofs.read.fill_corners.Statement.{statement}
 use Rattle.records.proofs.read.fill_corners.Tie as tie
-use Rattle.records.proofs.read.fill_corners.Reads as reads
-use Rattle.records.proofs.read.fill_corners.Lts as lts
-use Rattle.records.proofs.loops.Reads as loops-reads
-use Rattle.records.proofs.read.corner_in.Reads as corner-in-reads
-use Rattle.tables.proofs.corners.put_corner.Reads as put-corner-reads
 
 abbrev Inv-loop : tie.InvT-loop
 Inv-loop face n t₀ uv xyz i₀ t i = columns.Reading face n uv xyz t₀ t i
@@ -20,24 +14,6 @@ abbrev μ-loop : tie.MeasureT-loop
 
 loops-requires : tie.Need-loops-requires Inv-loop μ-loop
 loops-requires c κs = let w = c .before .before .pre in let l = w .there in omega arith
-
-mul-uv : tie.Need-mul-uv Inv-loop μ-loop
-mul-uv c = search needs
-
-add-uv : tie.Need-add-uv Inv-loop μ-loop
-add-uv c = search needs
-
-mul-uv-2 : tie.Need-mul-uv-2 Inv-loop μ-loop
-mul-uv-2 c = search needs
-
-add-uv-2 : tie.Need-add-uv-2 Inv-loop μ-loop
-add-uv-2 c = search needs
-
-mul-xyz : tie.Need-mul-xyz Inv-loop μ-loop
-mul-xyz c = search needs
-
-add-xyz : tie.Need-add-xyz Inv-loop μ-loop
-add-xyz c = search needs
 
 loop-holds : tie.Need-loop-holds Inv-loop μ-loop
 loop-holds c = columns.reading-start (c .before .before .before .pre) (omega (arith, c .loops .ensures)) refl
@@ -57,17 +33,10 @@ add-corner-in-2 c = let k = columns.reading-inside (c .before .before .loop .inv
 corner-in-requires : tie.Need-corner-in-requires Inv-loop μ-loop
 corner-in-requires c κs = columns.reading-inside (c .before .before .loop .inv) (c .before .loop-test .taken)
 
-put-corner-requires : tie.Need-put-corner-requires Inv-loop μ-loop
-put-corner-requires c κs = search needs
-
-add-i : tie.Need-add-i Inv-loop μ-loop
-add-i c = omega arith
-
-loop-less : tie.Need-loop-less Inv-loop μ-loop
-loop-less c = omega arith
-
 loop-again : tie.Need-loop-again Inv-loop μ-loop
-loop-again c = columns.reading-turn (c .before .before .before .before .before .before .loop .inv) (c .before .before .before .before .before .loop-test .taken) (c .before .before .before .corner-in .ensures) (search needs) (c .before .before .put-corner .ensures)
+loop-again c =
+    columns.reading-turn (c .before .before .before .before .before .before .loop .inv) (c .before .before .before .before .before .loop-test .taken)
+    (c .before .before .before .corner-in .ensures) (search needs) (c .before .before .put-corner .ensures)
 
 same-length : tie.Need-same-length Inv-loop μ-loop
 same-length c = c .before .loop .inv .long
@@ -77,26 +46,6 @@ returns c = columns.reading-end (c .before .loop .inv) (c .loop-test .left)
 
 pub fill-corners-spec : {M : Type 1} → statement M
 fill-corners-spec =
-    tie.close
-    (tie.spec
-    Inv-loop
-    μ-loop
-    loops-requires
-    mul-uv
-    add-uv
-    mul-uv-2
-    add-uv-2
-    mul-xyz
-    add-xyz
-    loop-holds
-    mul-corner-in
-    add-corner-in
-    mul-corner-in-2
-    add-corner-in-2
-    corner-in-requires
-    put-corner-requires
-    add-i
-    loop-less
-    loop-again
-    same-length
-    returns)
+    tie.close (tie.spec Inv-loop μ-loop loops-requires (λ c. search needs) (λ c. search needs) (λ c. search needs) (λ c. search needs) (λ c. search needs)
+    (λ c. search needs) loop-holds mul-corner-in add-corner-in mul-corner-in-2 add-corner-in-2 corner-in-requires (λ c κs. search needs) (λ c. omega arith)
+    (λ c. omega arith) loop-again same-length returns)

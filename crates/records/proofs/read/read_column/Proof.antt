@@ -10,9 +10,6 @@ Inv-loop face base off w n dst₀ p₀ i₀ dst p i = columns.Column face base o
 abbrev μ-loop : tie.MeasureT-loop
 μ-loop face base off w n dst₀ p₀ i₀ dst p i = n - i
 
-add-p : tie.Need-add-p Inv-loop μ-loop
-add-p c = omega arith
-
 loop-holds : tie.Need-loop-holds Inv-loop μ-loop
 loop-holds c = columns.column-start (c .before .before .pre .0) (c .before .before .pre .2) (c .before .before .pre .3)
 
@@ -28,12 +25,6 @@ slice-write-dst c = let l = columns.column-long (c .before .before .loop .inv) i
 add-p-2 : tie.Need-add-p-2 Inv-loop μ-loop
 add-p-2 c = let h = columns.column-inside (c .before .before .loop .inv) (c .before .loop-test .taken) in omega arith
 
-add-i : tie.Need-add-i Inv-loop μ-loop
-add-i c = omega arith
-
-loop-less : tie.Need-loop-less Inv-loop μ-loop
-loop-less c = omega arith
-
 loop-again : tie.Need-loop-again Inv-loop μ-loop
 loop-again c = columns.column-turn (c .before .before .loop .inv) (c .before .loop-test .taken) (c .real-at .ensures)
 
@@ -45,18 +36,5 @@ returns c = columns.column-end (c .before .loop .inv) (c .loop-test .left)
 
 pub read-column-spec : {M : Type 1} → statement M
 read-column-spec =
-    tie.close
-    (tie.spec
-    Inv-loop
-    μ-loop
-    add-p
-    loop-holds
-    real-at-requires
-    mul-dst
-    slice-write-dst
-    add-p-2
-    add-i
-    loop-less
-    loop-again
-    same-length
-    returns)
+    tie.close (tie.spec Inv-loop μ-loop (λ c. omega arith) loop-holds real-at-requires mul-dst slice-write-dst add-p-2 (λ c. omega arith) (λ c. omega arith)
+    loop-again same-length returns)

@@ -14,9 +14,6 @@ Inv-loop face dst₀ l k₀ dst k = columns.Filling (counts face) dst₀ dst k �
 abbrev μ-loop : tie.MeasureT-loop
 μ-loop face dst₀ l k₀ dst k = l - k
 
-counts-there-requires : tie.Need-counts-there-requires Inv-loop μ-loop
-counts-there-requires c κs = search needs
-
 returns : tie.Need-returns Inv-loop μ-loop
 returns c = reading.counts-gone _ _ (reading.gone _ (c .before .counts-there .ensures) (c .if1 .taken))
 
@@ -29,21 +26,6 @@ returns-2 c = reading.no-counts-room _ _ (c .before .loops .ensures .0) (c .if2 
 loop-holds : tie.Need-loop-holds Inv-loop μ-loop
 loop-holds c =
     (columns.counts-start _ (c .before .loops .ensures .0) (c .if2 .left), reading.there-long _ (reading.there _ (c .before .before .before .counts-there .ensures) (c .before .before .if1 .left)))
-
-count-at-requires : tie.Need-count-at-requires Inv-loop μ-loop
-count-at-requires c κs = search needs
-
-mul-dst : tie.Need-mul-dst Inv-loop μ-loop
-mul-dst c = omega arith
-
-slice-write-dst : tie.Need-slice-write-dst Inv-loop μ-loop
-slice-write-dst c = omega arith
-
-add-k : tie.Need-add-k Inv-loop μ-loop
-add-k c = omega arith
-
-loop-less : tie.Need-loop-less Inv-loop μ-loop
-loop-less c = omega arith
 
 loop-again : tie.Need-loop-again Inv-loop μ-loop
 loop-again c =
@@ -58,20 +40,5 @@ returns-3 c =
 
 pub read-counts-spec : {M : Type 1} → statement M
 read-counts-spec =
-    tie.close
-    (tie.spec
-    Inv-loop
-    μ-loop
-    counts-there-requires
-    returns
-    loops-requires
-    returns-2
-    loop-holds
-    count-at-requires
-    mul-dst
-    slice-write-dst
-    add-k
-    loop-less
-    loop-again
-    same-length
-    returns-3)
+    tie.close (tie.spec Inv-loop μ-loop (λ c κs. search needs) returns loops-requires returns-2 loop-holds (λ c κs. search needs) (λ c. omega arith)
+    (λ c. omega arith) (λ c. omega arith) (λ c. omega arith) loop-again same-length returns-3)

@@ -15,30 +15,14 @@ mul-e c = omega (arith, length-rows (c .before .args .t .now))
 mul-box-of : tie.Need-mul-box-of
 mul-box-of c = omega (arith, length-rows (c .before .args .t .now))
 
-sub-box-of : tie.Need-sub-box-of
-sub-box-of c = search needs
-
-part-box-of-start : tie.Need-part-box-of-start
-part-box-of-start c = search needs
-
 part-box-of-end : tie.Need-part-box-of-end
 part-box-of-end c = omega (arith, length-rows (c .before .args .t .now))
 
-box-of-requires : tie.Need-box-of-requires
-box-of-requires c κs = search needs
-
 returns : tie.Need-returns
-returns c = c .box-of .ensures ∙ ap boxIn (rows-part (c .before .before .before .args .from) (c .before .before .before .args .to) (c .before .before .before .args .t .now))
+returns c =
+    let start = c .before .before .before in
+    c .box-of .ensures ∙ ap boxIn (rows-part (start .args .from) (start .args .to) (start .args .t .now))
 
 pub box-of-part-spec : {M : Type 1} → statement M
 box-of-part-spec =
-    tie.close
-    (tie.spec
-    mul-a
-    mul-e
-    mul-box-of
-    sub-box-of
-    part-box-of-start
-    part-box-of-end
-    box-of-requires
-    returns)
+    tie.close (tie.spec mul-a mul-e mul-box-of (λ c. search needs) (λ c. search needs) part-box-of-end (λ c κs. search needs) returns)

@@ -13,44 +13,24 @@ Inv-loop t counts boxes₀ n from₀ i₀ boxes from i = Boxing t counts boxes�
 abbrev μ-loop : tie.MeasureT-loop
 μ-loop t counts boxes₀ n from₀ i₀ boxes from i = length counts - i
 
-box-count-requires : tie.Need-box-count-requires Inv-loop μ-loop
-box-count-requires c κs = search needs
-
 same-length : tie.Need-same-length Inv-loop μ-loop
 same-length c = refl
 
 returns : tie.Need-returns Inv-loop μ-loop
 returns c = boxing-none _ _ _ _ (c .before .box-count .ensures) (c .if1 .taken)
 
-count-requires : tie.Need-count-requires Inv-loop μ-loop
-count-requires c κs = search needs
-
 loop-holds : tie.Need-loop-holds Inv-loop μ-loop
 loop-holds c = boxing _ _ _ _ _ (c .before .before .box-count .ensures) (c .before .if1 .left) (c .count .ensures .0)
 
-mul-piece-end : tie.Need-mul-piece-end Inv-loop μ-loop
-mul-piece-end c = omega arith
-
-shared-slice-read-piece-end : tie.Need-shared-slice-read-piece-end Inv-loop μ-loop
-shared-slice-read-piece-end c = omega arith
-
-piece-end-requires : tie.Need-piece-end-requires Inv-loop μ-loop
-piece-end-requires c κs = search needs
-
 box-of-part-requires : tie.Need-box-of-part-requires Inv-loop μ-loop
-box-of-part-requires c κs = omega (arith, c .before .piece-end .ensures, c .before .before .before .before .loop .inv .count, c .before .before .before .before .loop .inv .is .at .low)
-
-put-box-requires : tie.Need-put-box-requires Inv-loop μ-loop
-put-box-requires c κs = search needs
-
-add-i : tie.Need-add-i Inv-loop μ-loop
-add-i c = omega arith
-
-loop-less : tie.Need-loop-less Inv-loop μ-loop
-loop-less c = omega arith
+box-of-part-requires c κs =
+    omega (arith, c .before .piece-end .ensures, c .before .before .before .before .loop .inv .count, c .before .before .before .before .loop .inv .is .at .low)
 
 loop-again : tie.Need-loop-again Inv-loop μ-loop
-loop-again c = boxing-turn _ _ _ _ _ _ _ _ _ _ (c .before .before .before .before .before .before .before .before .loop .inv) (c .before .before .before .before .before .before .before .loop-test .taken) (c .before .before .before .before .before .piece-end .ensures) (c .before .before .before .box-of-part .ensures) (search needs) (c .before .before .put-box .ensures)
+loop-again c =
+    boxing-turn _ _ _ _ _ _ _ _ _ _ (c .before .before .before .before .before .before .before .before .loop .inv)
+    (c .before .before .before .before .before .before .before .loop-test .taken) (c .before .before .before .before .before .piece-end .ensures)
+    (c .before .before .before .box-of-part .ensures) (search needs) (c .before .before .put-box .ensures)
 
 same-length-2 : tie.Need-same-length-2 Inv-loop μ-loop
 same-length-2 c = c .before .loop .inv .long
@@ -60,22 +40,5 @@ returns-2 c = boxing-end _ _ _ _ _ _ _ (c .before .loop .inv) (c .loop-test .lef
 
 pub boxes-into-spec : {M : Type 1} → statement M
 boxes-into-spec =
-    tie.close
-    (tie.spec
-    Inv-loop
-    μ-loop
-    box-count-requires
-    same-length
-    returns
-    count-requires
-    loop-holds
-    mul-piece-end
-    shared-slice-read-piece-end
-    piece-end-requires
-    box-of-part-requires
-    put-box-requires
-    add-i
-    loop-less
-    loop-again
-    same-length-2
-    returns-2)
+    tie.close (tie.spec Inv-loop μ-loop (λ c κs. search needs) same-length returns (λ c κs. search needs) loop-holds (λ c. omega arith) (λ c. omega arith)
+    (λ c κs. search needs) box-of-part-requires (λ c κs. search needs) (λ c. omega arith) (λ c. omega arith) loop-again same-length-2 returns-2)

@@ -12,45 +12,18 @@ Inv-loop boxes n largest₀ i₀ largest i = laws.Sides (boxesIn boxes) n larges
 abbrev μ-loop : tie.MeasureT-loop
 μ-loop boxes n largest₀ i₀ largest i = n - i
 
-box-count-requires : tie.Need-box-count-requires Inv-loop μ-loop
-box-count-requires c κs = search needs
-
 loop-holds : tie.Need-loop-holds Inv-loop μ-loop
 loop-holds c = laws.sides _ _ (c .box-count .ensures)
 
-box-at-requires : tie.Need-box-at-requires Inv-loop μ-loop
-box-at-requires c κs = search needs
-
-longer-side-requires : tie.Need-longer-side-requires Inv-loop μ-loop
-longer-side-requires c κs = search needs
-
-max-requires : tie.Need-max-requires Inv-loop μ-loop
-max-requires c κs = search needs
-
-add-i : tie.Need-add-i Inv-loop μ-loop
-add-i c = omega arith
-
-loop-less : tie.Need-loop-less Inv-loop μ-loop
-loop-less c = omega arith
-
 loop-again : tie.Need-loop-again Inv-loop μ-loop
-loop-again c = laws.sides-turn _ _ _ _ _ _ (c .before .before .before .before .loop .inv) (c .before .before .before .loop-test .taken) (c .before .before .box-at .ensures) (c .before .longer-side .ensures) _ (c .max .ensures)
+loop-again c =
+    laws.sides-turn _ _ _ _ _ _ (c .before .before .before .before .loop .inv) (c .before .before .before .loop-test .taken) (c .before .before .box-at .ensures)
+    (c .before .longer-side .ensures) _ (c .max .ensures)
 
 returns : tie.Need-returns Inv-loop μ-loop
 returns c = laws.sides-end _ _ _ _ (c .before .loop .inv) (c .loop-test .left)
 
 pub slack-of-spec : {M : Type 1} → statement M
 slack-of-spec =
-    tie.close
-    (tie.spec
-    Inv-loop
-    μ-loop
-    box-count-requires
-    loop-holds
-    box-at-requires
-    longer-side-requires
-    max-requires
-    add-i
-    loop-less
-    loop-again
-    returns)
+    tie.close (tie.spec Inv-loop μ-loop (λ c κs. search needs) loop-holds (λ c κs. search needs) (λ c κs. search needs) (λ c κs. search needs)
+    (λ c. omega arith) (λ c. omega arith) loop-again returns)

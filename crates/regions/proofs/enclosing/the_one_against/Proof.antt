@@ -14,32 +14,14 @@ Inv-loop boxes slack outermost none n found₀ i₀ found i = laws.Seeking (encl
 abbrev μ-loop : tie.MeasureT-loop
 μ-loop boxes slack outermost none n found₀ i₀ found i = n - i
 
-box-count-requires : tie.Need-box-count-requires Inv-loop μ-loop
-box-count-requires c κs = search needs
-
 loop-holds : tie.Need-loop-holds Inv-loop μ-loop
 loop-holds c = laws.seeking _ _ _ (c .box-count .ensures)
-
-add-i : tie.Need-add-i Inv-loop μ-loop
-add-i c = omega arith
-
-box-at-requires : tie.Need-box-at-requires Inv-loop μ-loop
-box-at-requires c κs = search needs
-
-encloses-outermost-requires : tie.Need-encloses-outermost-requires Inv-loop μ-loop
-encloses-outermost-requires c κs = search needs
 
 returns : tie.Need-returns Inv-loop μ-loop
 returns c = search (laws.seeking-two, laws.held-at, needs)
 
-loop-less : tie.Need-loop-less Inv-loop μ-loop
-loop-less c = omega arith
-
 loop-again : tie.Need-loop-again Inv-loop μ-loop
 loop-again c = search (laws.seeking-one, laws.held-at, needs)
-
-loop-less-2 : tie.Need-loop-less-2 Inv-loop μ-loop
-loop-less-2 c = omega arith
 
 loop-again-2 : tie.Need-loop-again-2 Inv-loop μ-loop
 loop-again-2 c = search (laws.seeking-on, laws.held-at, needs)
@@ -52,19 +34,5 @@ returns-3 c = laws.found-none _ _ _ _ _ _ (c .before .before .loop .inv) (c .bef
 
 pub the-one-against-spec : {M : Type 1} → statement M
 the-one-against-spec =
-    tie.close
-    (tie.spec
-    Inv-loop
-    μ-loop
-    box-count-requires
-    loop-holds
-    add-i
-    box-at-requires
-    encloses-outermost-requires
-    returns
-    loop-less
-    loop-again
-    loop-less-2
-    loop-again-2
-    returns-2
-    returns-3)
+    tie.close (tie.spec Inv-loop μ-loop (λ c κs. search needs) loop-holds (λ c. omega arith) (λ c κs. search needs) (λ c κs. search needs) returns
+    (λ c. omega arith) loop-again (λ c. omega arith) loop-again-2 returns-2 returns-3)

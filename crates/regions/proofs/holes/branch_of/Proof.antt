@@ -4,18 +4,10 @@ use borrow.Author.Needs.{needs}
 use Rattle.regions.proofs.holes.branch_of.Statement.{statement}
 use Rattle.regions.proofs.holes.branch_of.Tie as tie
 
-box-of-requires : tie.Need-box-of-requires
-box-of-requires c κs = search needs
-
-length-of-requires : tie.Need-length-of-requires
-length-of-requires c κs = search needs
-
-length-of-requires-2 : tie.Need-length-of-requires-2
-length-of-requires-2 c κs = search needs
-
 returns : tie.Need-returns
-returns c = branch-is _ (rows (c .before .before .before .before .before .before .args .t .now)) _ _ _ _ (c .before .before .before .before .box-of .ensures) (c .before .length-of .ensures) (c .length-of2 .ensures)
+returns c =
+    branch-is _ (rows (c .before .before .before .before .before .before .args .t .now)) _ _ _ _ (c .before .before .before .before .box-of .ensures)
+    (c .before .length-of .ensures) (c .length-of2 .ensures)
 
 pub branch-of-spec : {M : Type 1} → statement M
-branch-of-spec =
-    tie.close (tie.spec box-of-requires length-of-requires length-of-requires-2 returns)
+branch-of-spec = tie.close (tie.spec (λ c κs. search needs) (λ c κs. search needs) (λ c κs. search needs) returns)

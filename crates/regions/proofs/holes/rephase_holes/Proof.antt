@@ -18,38 +18,20 @@ returns c = no-outer _ _ _ _ _ _ (c .if1 .taken)
 returns-2 : tie.Need-returns-2 Inv-loop μ-loop
 returns-2 c = no-areas _ _ _ _ _ _ (c .if2 .taken)
 
-loop-of-requires : tie.Need-loop-of-requires Inv-loop μ-loop
-loop-of-requires c κs = search needs
-
-branch-of-requires : tie.Need-branch-of-requires Inv-loop μ-loop
-branch-of-requires c κs = search needs
-
-count-requires : tie.Need-count-requires Inv-loop μ-loop
-count-requires c κs = search needs
-
 loop-holds : tie.Need-loop-holds Inv-loop μ-loop
-loop-holds c = rephasing _ _ _ _ _ _ (c .count .ensures .0) (c .before .before .before .before .before .before .if1 .left) (c .before .before .before .before .before .if2 .left)
-
-mul-piece-end : tie.Need-mul-piece-end Inv-loop μ-loop
-mul-piece-end c = omega arith
-
-shared-slice-read-piece-end : tie.Need-shared-slice-read-piece-end Inv-loop μ-loop
-shared-slice-read-piece-end c = omega arith
-
-piece-end-requires : tie.Need-piece-end-requires Inv-loop μ-loop
-piece-end-requires c κs = search needs
+loop-holds c =
+    rephasing _ _ _ _ _ _ (c .count .ensures .0) (c .before .before .before .before .before .before .if1 .left)
+    (c .before .before .before .before .before .if2 .left)
 
 rephase-loop-requires : tie.Need-rephase-loop-requires Inv-loop μ-loop
 rephase-loop-requires c κs = still _ _ _ _ _ _ _ _ _ _ (c .before .before .before .before .before .loop .inv) _ (c .before .before .piece-end .ensures)
 
-add-k : tie.Need-add-k Inv-loop μ-loop
-add-k c = omega arith
-
-loop-less : tie.Need-loop-less Inv-loop μ-loop
-loop-less c = omega arith
-
 loop-again : tie.Need-loop-again Inv-loop μ-loop
-loop-again c = rephasing-turn _ _ _ _ _ _ _ _ _ _ (c .before .before .before .before .before .before .before .before .before .before .loop .inv) _ _ _ (c .before .before .before .before .before .before .before .before .before .loop-test .taken) (c .before .before .before .before .before .before .before .piece-end .ensures) (search needs) (c .before .before .before .before .rephase-loop .ensures .0) (c .before .before .before .before .rephase-loop .ensures .1)
+loop-again c =
+    rephasing-turn _ _ _ _ _ _ _ _ _ _ (c .before .before .before .before .before .before .before .before .before .before .loop .inv) _ _ _
+    (c .before .before .before .before .before .before .before .before .before .loop-test .taken)
+    (c .before .before .before .before .before .before .before .piece-end .ensures) (search needs) (c .before .before .before .before .rephase-loop .ensures .0)
+    (c .before .before .before .before .rephase-loop .ensures .1)
 
 same-length : tie.Need-same-length Inv-loop μ-loop
 same-length c = c .before .loop .inv .long
@@ -58,27 +40,11 @@ same-length-2 : tie.Need-same-length-2 Inv-loop μ-loop
 same-length-2 c = c .before .loop .inv .fill .long
 
 returns-3 : tie.Need-returns-3 Inv-loop μ-loop
-returns-3 c = holes-left _ _ _ _ _ _ _ _ _ _ _ _ _ (c .before .before .before .before .before .loop-of .ensures) (c .before .before .before .before .branch-of .ensures) (c .before .loop .inv) (c .loop-test .left)
+returns-3 c =
+    holes-left _ _ _ _ _ _ _ _ _ _ _ _ _ (c .before .before .before .before .before .loop-of .ensures) (c .before .before .before .before .branch-of .ensures)
+    (c .before .loop .inv) (c .loop-test .left)
 
 pub rephase-holes-spec : {M : Type 1} → statement M
 rephase-holes-spec =
-    tie.close
-    (tie.spec
-    Inv-loop
-    μ-loop
-    returns
-    returns-2
-    loop-of-requires
-    branch-of-requires
-    count-requires
-    loop-holds
-    mul-piece-end
-    shared-slice-read-piece-end
-    piece-end-requires
-    rephase-loop-requires
-    add-k
-    loop-less
-    loop-again
-    same-length
-    same-length-2
-    returns-3)
+    tie.close (tie.spec Inv-loop μ-loop returns returns-2 (λ c κs. search needs) (λ c κs. search needs) (λ c κs. search needs) loop-holds (λ c. omega arith)
+    (λ c. omega arith) (λ c κs. search needs) rephase-loop-requires (λ c. omega arith) (λ c. omega arith) loop-again same-length same-length-2 returns-3)

@@ -18,20 +18,8 @@ mul-e c = omega (arith, length-rows (c .before .args .t .now))
 mul-rephase-hole : tie.Need-mul-rephase-hole
 mul-rephase-hole c = omega (arith, length-rows (c .before .args .t .now))
 
-sub-rephase-hole : tie.Need-sub-rephase-hole
-sub-rephase-hole c = search needs
-
-part-rephase-hole-start : tie.Need-part-rephase-hole-start
-part-rephase-hole-start c = search needs
-
 part-rephase-hole-end : tie.Need-part-rephase-hole-end
 part-rephase-hole-end c = omega (arith, length-rows (c .before .args .t .now))
-
-rephase-hole-requires : tie.Need-rephase-hole-requires
-rephase-hole-requires c κs = search needs
-
-same-length : tie.Need-same-length
-same-length c = search needs
 
 returns : tie.Need-returns
 returns c = (
@@ -41,14 +29,5 @@ returns c = (
 
 pub rephase-part-spec : {M : Type 1} → statement M
 rephase-part-spec =
-    tie.close
-    (tie.spec
-    mul-a
-    mul-e
-    mul-rephase-hole
-    sub-rephase-hole
-    part-rephase-hole-start
-    part-rephase-hole-end
-    rephase-hole-requires
-    same-length
+    tie.close (tie.spec mul-a mul-e mul-rephase-hole (λ c. search needs) (λ c. search needs) part-rephase-hole-end (λ c κs. search needs) (λ c. search needs)
     returns)

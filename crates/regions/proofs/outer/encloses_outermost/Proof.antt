@@ -3,12 +3,6 @@ use Rattle.regions.specs.ByOutermost.{enclosesOutermost}
 use Rattle.regions.proofs.outer.encloses_outermost.Statement.{statement}
 use Rattle.regions.proofs.outer.encloses_outermost.Tie as tie
 
-encloses-within-requires : tie.Need-encloses-within-requires
-encloses-within-requires c κs = search needs
-
-one-if-unenclosable-requires : tie.Need-one-if-unenclosable-requires
-one-if-unenclosable-requires c κs = search needs
-
 returns : tie.Need-returns
 unfolding enclosesOutermost
 returns c = rw (← (c .before .before .before .encloses-within .ensures), c .before .before .if1 .taken, ← (c .before .one-if-unenclosable .ensures))
@@ -18,4 +12,4 @@ unfolding enclosesOutermost
 returns-2 c = rw (← (c .before .encloses-within .ensures), c .if1 .left)
 
 pub encloses-outermost-spec : {M : Type 1} → statement M
-encloses-outermost-spec = tie.close (tie.spec encloses-within-requires one-if-unenclosable-requires returns returns-2)
+encloses-outermost-spec = tie.close (tie.spec (λ c κs. search needs) (λ c κs. search needs) returns returns-2)

@@ -4,7 +4,9 @@ use Rattle.regions.proofs.outer.encloses_within.Tie as tie
 
 returns : tie.Need-returns
 unfolding encloses
-returns c = rw (c .before .before .before .before .before .before .before .before .if1 .taken, c .before .before .before .before .before .if2 .taken, c .before .before .if3 .taken)
+returns c =
+    rw
+    (c .before .before .before .before .before .before .before .before .if1 .taken, c .before .before .before .before .before .if2 .taken, c .before .before .if3 .taken)
 
 returns-2 : tie.Need-returns-2
 unfolding encloses

@@ -3,9 +3,6 @@ use Rattle.regions.specs.ByOutermost.{oneIfUnenclosable}
 use Rattle.regions.proofs.outer.one_if_unenclosable.Statement.{statement}
 use Rattle.regions.proofs.outer.one_if_unenclosable.Tie as tie
 
-encloses-within-requires : tie.Need-encloses-within-requires
-encloses-within-requires c κs = search needs
-
 returns : tie.Need-returns
 unfolding oneIfUnenclosable
 returns c = rw (← (c .before .encloses-within .ensures), c .if1 .taken)
@@ -15,4 +12,4 @@ unfolding oneIfUnenclosable
 returns-2 c = rw (← (c .before .encloses-within .ensures), c .if1 .left)
 
 pub one-if-unenclosable-spec : {M : Type 1} → statement M
-one-if-unenclosable-spec = tie.close (tie.spec encloses-within-requires returns returns-2)
+one-if-unenclosable-spec = tie.close (tie.spec (λ c κs. search needs) returns returns-2)

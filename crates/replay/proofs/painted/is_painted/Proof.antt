@@ -16,20 +16,9 @@ abbrev μ-loop : tie.MeasureT-loop
 loop-holds : tie.Need-loop-holds Inv-loop μ-loop
 loop-holds c = seen-start
 
-shared-slice-read-if1 : tie.Need-shared-slice-read-if1 Inv-loop μ-loop
-shared-slice-read-if1 c = search needs
-
-shade-requires : tie.Need-shade-requires Inv-loop μ-loop
-shade-requires c κs = search needs
-
 returns : tie.Need-returns Inv-loop μ-loop
-returns c = (λ e. absurd (true≢false (sym e)), seen-other (c .before .before .before .before .loop .inv) (c .before .before .before .loop-test .taken) (λ e. c .if1 .taken (e ∙ sym (c .before .shade .ensures))))
-
-add-i : tie.Need-add-i Inv-loop μ-loop
-add-i c = search needs
-
-loop-less : tie.Need-loop-less Inv-loop μ-loop
-loop-less c = search needs
+returns c =
+    (λ e. absurd (true≢false (sym e)), seen-other (c .before .before .before .before .loop .inv) (c .before .before .before .loop-test .taken) (λ e. c .if1 .taken (e ∙ sym (c .before .shade .ensures))))
 
 loop-again : tie.Need-loop-again Inv-loop μ-loop
 loop-again c = seen-turn (c .before .before .before .before .loop .inv) (c .if1 .left ∙ c .before .shade .ensures)
@@ -39,15 +28,5 @@ returns-2 c = (λ e. seen-end (c .before .loop .inv) (c .loop-test .left), λ p.
 
 pub is-painted-spec : {M : Type 1} → statement M
 is-painted-spec =
-    tie.close
-    (tie.spec
-    Inv-loop
-    μ-loop
-    loop-holds
-    shared-slice-read-if1
-    shade-requires
-    returns
-    add-i
-    loop-less
-    loop-again
+    tie.close (tie.spec Inv-loop μ-loop loop-holds (λ c. search needs) (λ c κs. search needs) returns (λ c. search needs) (λ c. search needs) loop-again
     returns-2)

@@ -3,23 +3,13 @@ use borrow.Author.Needs.{needs}
 use Rattle.rings.proofs.choices.serve.Statement.{statement}
 use Rattle.rings.proofs.choices.serve.Tie as tie
 
-begins-backward-requires : tie.Need-begins-backward-requires
-begins-backward-requires c κs = search needs
-
 returns : tie.Need-returns
 returns c = serve-backward _ _ _ _ (c .before .begins-backward .ensures) (c .if1 .taken)
 
-first-of-requires : tie.Need-first-of-requires
-first-of-requires c κs = search needs
-
-stands-at-the-cut-requires : tie.Need-stands-at-the-cut-requires
-stands-at-the-cut-requires c κs = search needs
-
 returns-2 : tie.Need-returns-2
-returns-2 c = serve-first _ _ _ _ (c .before .before .before .before .begins-backward .ensures) (c .before .before .before .if1 .left) _ (c .before .before .first-of .ensures) _ (c .before .stands-at-the-cut .ensures) (c .if2 .taken)
-
-stands-at-the-cut-requires-2 : tie.Need-stands-at-the-cut-requires-2
-stands-at-the-cut-requires-2 c κs = search needs
+returns-2 c =
+    serve-first _ _ _ _ (c .before .before .before .before .begins-backward .ensures) (c .before .before .before .if1 .left) _
+    (c .before .before .first-of .ensures) _ (c .before .stands-at-the-cut .ensures) (c .if2 .taken)
 
 returns-3 : tie.Need-returns-3
 returns-3 c =
@@ -28,12 +18,4 @@ returns-3 c =
 
 pub serve-spec : {M : Type 1} → statement M
 serve-spec =
-    tie.close
-    (tie.spec
-    begins-backward-requires
-    returns
-    first-of-requires
-    stands-at-the-cut-requires
-    returns-2
-    stands-at-the-cut-requires-2
-    returns-3)
+    tie.close (tie.spec (λ c κs. search needs) returns (λ c κs. search needs) (λ c κs. search needs) returns-2 (λ c κs. search needs) returns-3)

@@ -5,25 +5,11 @@ use borrow.Author.Needs.{needs}
 use Rattle.rings.proofs.moves.begin_part.Statement.{statement}
 use Rattle.rings.proofs.moves.begin_part.Tie as tie
 
-sub-begin : tie.Need-sub-begin
-sub-begin c = search needs
-
-part-begin-start : tie.Need-part-begin-start
-part-begin-start c = search needs
-
-part-begin-end : tie.Need-part-begin-end
-part-begin-end c = search needs
-
-begin-requires : tie.Need-begin-requires
-begin-requires c κs = search needs
-
-same-length : tie.Need-same-length
-same-length c = search needs
-
 returns : tie.Need-returns
-returns c = part-is (begun (movedBy (c .before .before .before .before .before .args .again)) (c .before .before .before .before .before .args .k)) 0 (c .before .before .before .before .before .args .to) (c .before .before .before .before .before .args .s .now) _ (c .before .before .begin .ensures)
+returns c =
+    let start = c .before .before .before .before .before in
+    part-is (begun (movedBy (start .args .again)) (start .args .k)) 0 (start .args .to) (start .args .s .now) _ (c .before .before .begin .ensures)
 
 pub begin-part-spec : {M : Type 1} → statement M
 begin-part-spec =
-    tie.close
-    (tie.spec sub-begin part-begin-start part-begin-end begin-requires same-length returns)
+    tie.close (tie.spec (λ c. search needs) (λ c. search needs) (λ c. search needs) (λ c κs. search needs) (λ c. search needs) returns)

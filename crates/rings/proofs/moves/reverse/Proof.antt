@@ -15,23 +15,10 @@ abbrev μ-loop : tie.MeasureT-loop
 loop-holds : tie.Need-loop-holds Inv-loop μ-loop
 loop-holds c = reversing _
 
-add-loop : tie.Need-add-loop Inv-loop μ-loop
-add-loop c = omega arith
-
-sub-j : tie.Need-sub-j Inv-loop μ-loop
-sub-j c = omega arith
-
-swap-requires : tie.Need-swap-requires Inv-loop μ-loop
-swap-requires c κs = search needs
-
-add-i : tie.Need-add-i Inv-loop μ-loop
-add-i c = omega arith
-
-loop-less : tie.Need-loop-less Inv-loop μ-loop
-loop-less c = omega arith
-
 loop-again : tie.Need-loop-again Inv-loop μ-loop
-loop-again c = reversing-turn nan _ _ _ _ _ (c .before .before .before .before .before .loop .inv) (c .before .before .before .before .loop-test .taken) (c .before .before .swap .ensures)
+loop-again c =
+    reversing-turn nan _ _ _ _ _ (c .before .before .before .before .before .loop .inv) (c .before .before .before .before .loop-test .taken)
+    (c .before .before .swap .ensures)
 
 same-length : tie.Need-same-length Inv-loop μ-loop
 same-length c = c .before .loop .inv .long
@@ -41,16 +28,5 @@ returns c = reversing-end _ _ _ _ (c .before .loop .inv) (c .loop-test .left)
 
 pub reverse-spec : {M : Type 1} → statement M
 reverse-spec =
-    tie.close
-    (tie.spec
-    Inv-loop
-    μ-loop
-    loop-holds
-    add-loop
-    sub-j
-    swap-requires
-    add-i
-    loop-less
-    loop-again
-    same-length
-    returns)
+    tie.close (tie.spec Inv-loop μ-loop loop-holds (λ c. omega arith) (λ c. omega arith) (λ c κs. search needs) (λ c. omega arith) (λ c. omega arith) loop-again
+    same-length returns)

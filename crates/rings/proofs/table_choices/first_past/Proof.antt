@@ -11,23 +11,11 @@ Inv-loop t cut n i₀ i = Searching cut t n i
 abbrev μ-loop : tie.MeasureT-loop
 μ-loop t cut n i₀ i = n - i
 
-count-requires : tie.Need-count-requires Inv-loop μ-loop
-count-requires c κs = search needs
-
 loop-holds : tie.Need-loop-holds Inv-loop μ-loop
 loop-holds c = searching _ _ _ (c .count .ensures .0)
 
-u-at-requires : tie.Need-u-at-requires Inv-loop μ-loop
-u-at-requires c κs = search needs
-
 returns : tie.Need-returns Inv-loop μ-loop
 returns c = searching-found _ _ _ _ _ (c .before .before .before .loop .inv) (c .before .before .loop-test .taken) (c .before .u-at .ensures) (c .if1 .taken)
-
-add-i : tie.Need-add-i Inv-loop μ-loop
-add-i c = omega arith
-
-loop-less : tie.Need-loop-less Inv-loop μ-loop
-loop-less c = omega arith
 
 loop-again : tie.Need-loop-again Inv-loop μ-loop
 loop-again c = searching-turn _ _ _ _ _ (c .before .before .before .loop .inv) (c .before .before .loop-test .taken) (c .before .u-at .ensures) (c .if1 .left)
@@ -37,15 +25,5 @@ returns-2 c = searching-end _ _ _ _ (c .before .loop .inv) (c .loop-test .left)
 
 pub first-past-spec : {M : Type 1} → statement M
 first-past-spec =
-    tie.close
-    (tie.spec
-    Inv-loop
-    μ-loop
-    count-requires
-    loop-holds
-    u-at-requires
-    returns
-    add-i
-    loop-less
-    loop-again
+    tie.close (tie.spec Inv-loop μ-loop (λ c κs. search needs) loop-holds (λ c κs. search needs) returns (λ c. omega arith) (λ c. omega arith) loop-again
     returns-2)

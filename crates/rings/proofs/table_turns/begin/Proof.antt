@@ -8,32 +8,20 @@ use borrow.Author.Needs.{needs}
 use Rattle.rings.proofs.table_turns.begin.Statement.{statement}
 use Rattle.rings.proofs.table_turns.begin.Tie as tie
 
-count-requires : tie.Need-count-requires
-count-requires c κs = search needs
-
-move-u-requires : tie.Need-move-u-requires
-move-u-requires c κs = search needs
-
-same-length : tie.Need-same-length
-same-length c = search needs
-
 returns : tie.Need-returns
-returns c = rows-past _ _ _ (c .before .before .before .before .before .count .ensures .0) _ _ (c .before .before .before .before .if1 .taken) (c .before .before .move-u .ensures)
-
-reverse-part-requires : tie.Need-reverse-part-requires
-reverse-part-requires c κs = search needs
+returns c =
+    rows-past _ _ _ (c .before .before .before .before .before .count .ensures .0) _ _ (c .before .before .before .before .if1 .taken)
+    (c .before .before .move-u .ensures)
 
 reverse-part-requires-2 : tie.Need-reverse-part-requires-2
-reverse-part-requires-2 c κs = omega (arith, length-rows (c .before .before .before .reverse-part .last .0), length-rows (c .before .before .before .before .before .before .before .before .before .args .t .now))
-
-reverse-rows-requires : tie.Need-reverse-rows-requires
-reverse-rows-requires c κs = search needs
+reverse-part-requires-2 c κs =
+    omega
+    (arith, length-rows (c .before .before .before .reverse-part .last .0), length-rows (c .before .before .before .before .before .before .before .before .before .args .t .now))
 
 move-part-requires : tie.Need-move-part-requires
-move-part-requires c κs = omega (arith, length-rows (c .before .before .before .reverse-rows .last .0), length-rows (c .before .before .before .before .before .before .before .before .before .before .before .before .before .before .before .before .before .args .t .now))
-
-same-length-2 : tie.Need-same-length-2
-same-length-2 c = search needs
+move-part-requires c κs =
+    omega
+    (arith, length-rows (c .before .before .before .reverse-rows .last .0), length-rows (c .before .before .before .before .before .before .before .before .before .before .before .before .before .before .before .before .before .args .t .now))
 
 returns-2 : tie.Need-returns-2
 returns-2 c =
@@ -42,15 +30,5 @@ returns-2 c =
 
 pub begin-spec : {M : Type 1} → statement M
 begin-spec =
-    tie.close
-    (tie.spec
-    count-requires
-    move-u-requires
-    same-length
-    returns
-    reverse-part-requires
-    reverse-part-requires-2
-    reverse-rows-requires
-    move-part-requires
-    same-length-2
-    returns-2)
+    tie.close (tie.spec (λ c κs. search needs) (λ c κs. search needs) (λ c. search needs) returns (λ c κs. search needs) reverse-part-requires-2
+    (λ c κs. search needs) move-part-requires (λ c. search needs) returns-2)

@@ -11,25 +11,15 @@ use Rattle.rings.proofs.table_turns.begin_part.Tie as tie
 mul-e : tie.Need-mul-e
 mul-e c = omega (arith, length-rows (c .before .args .t .now))
 
-sub-begin : tie.Need-sub-begin
-sub-begin c = search needs
-
-part-begin-start : tie.Need-part-begin-start
-part-begin-start c = search needs
-
 part-begin-end : tie.Need-part-begin-end
 part-begin-end c = omega (arith, length-rows (c .before .args .t .now))
 
-begin-requires : tie.Need-begin-requires
-begin-requires c κs = search needs
-
-same-length : tie.Need-same-length
-same-length c = search needs
-
 returns : tie.Need-returns
-returns c = part-rows (begun (moveU (movedBy (c .before .before .before .before .before .args .again))) (c .before .before .before .before .before .args .k)) 0 (c .before .before .before .before .before .args .to) (c .before .before .before .before .before .args .t .now) _ (omega arith) (c .before .before .before .before .before .pre) (c .before .before .begin .ensures) (search needs)
+returns c =
+    let start = c .before .before .before .before .before in
+    part-rows (begun (moveU (movedBy (start .args .again))) (start .args .k)) 0 (start .args .to) (start .args .t .now) _ (omega arith) (start .pre)
+    (c .before .before .begin .ensures) (search needs)
 
 pub begin-part-spec : {M : Type 1} → statement M
 begin-part-spec =
-    tie.close
-    (tie.spec mul-e sub-begin part-begin-start part-begin-end begin-requires same-length returns)
+    tie.close (tie.spec mul-e (λ c. search needs) (λ c. search needs) part-begin-end (λ c κs. search needs) (λ c. search needs) returns)

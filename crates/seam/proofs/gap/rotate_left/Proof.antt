@@ -4,35 +4,11 @@ use borrow.Author.Needs.{needs}
 use Rattle.seam.proofs.gap.rotate_left.Statement.{statement}
 use Rattle.seam.proofs.gap.rotate_left.Tie as tie
 
-mul-begin : tie.Need-mul-begin
-mul-begin c = search needs
-
-sub-begin : tie.Need-sub-begin
-sub-begin c = search needs
-
-part-begin-start : tie.Need-part-begin-start
-part-begin-start c = search needs
-
-part-begin-end : tie.Need-part-begin-end
-part-begin-end c = search needs
-
-begin-requires : tie.Need-begin-requires
-begin-requires c κs = search needs
-
-same-length : tie.Need-same-length
-same-length c = search needs
-
 returns : tie.Need-returns
-returns c = part-is (begun unchanged 1) (c .before .before .before .before .before .args .from) (c .before .before .before .before .before .args .to) (c .before .before .before .before .before .args .s .now) _ (c .before .before .begin .ensures)
+returns c =
+    let start = c .before .before .before .before .before in
+    part-is (begun unchanged 1) (start .args .from) (start .args .to) (start .args .s .now) _ (c .before .before .begin .ensures)
 
 pub rotate-left-spec : {M : Type 1} → statement M
 rotate-left-spec =
-    tie.close
-    (tie.spec
-    mul-begin
-    sub-begin
-    part-begin-start
-    part-begin-end
-    begin-requires
-    same-length
-    returns)
+    tie.close (tie.spec (λ c. search needs) (λ c. search needs) (λ c. search needs) (λ c. search needs) (λ c κs. search needs) (λ c. search needs) returns)

@@ -7,7 +7,9 @@ returns : tie.Need-returns
 returns c = given-few (c .before .before .before .args .first .now) _ (c .before .count .ensures .0) (c .if1 .taken)
 
 returns-2 : tie.Need-returns-2
-returns-2 c = given-more (c .before .before .before .before .before .args .first .now) _ (c .before .before .before .count .ensures .0) _ _ (c .before .u-at .ensures) (c .u-at2 .ensures) (c .before .before .if1 .left)
+returns-2 c =
+    given-more (c .before .before .before .before .before .args .first .now) _ (c .before .before .before .count .ensures .0) _ _ (c .before .u-at .ensures)
+    (c .u-at2 .ensures) (c .before .before .if1 .left)
 
 pub as-given-backward-spec : {M : Type 1} → statement M
 as-given-backward-spec =

@@ -22,10 +22,14 @@ same-length : tie.Need-same-length Inv-loop μ-loop
 same-length c = omega (arith, c .before .before .before .before .before .before .loop .inv .long)
 
 returns : tie.Need-returns Inv-loop μ-loop
-returns c = laws.trying-found _ _ _ _ _ _ _ (c .before .before .before .before .before .before .loop .inv) _ (c .before .before .before .before .before .loop-test .taken) (c .before .before .before .serves .ensures) (c .if1 .taken)
+returns c =
+    laws.trying-found _ _ _ _ _ _ _ (c .before .before .before .before .before .before .loop .inv) _
+    (c .before .before .before .before .before .loop-test .taken) (c .before .before .before .serves .ensures) (c .if1 .taken)
 
 loop-again : tie.Need-loop-again Inv-loop μ-loop
-loop-again c = laws.trying-turn _ _ _ _ _ _ _ (c .before .before .before .before .before .before .loop .inv) _ _ (search needs) (c .before .before .before .before .before .loop-test .taken) (c .before .before .before .serves .ensures) (c .if1 .left)
+loop-again c =
+    laws.trying-turn _ _ _ _ _ _ _ (c .before .before .before .before .before .before .loop .inv) _ _ (search needs)
+    (c .before .before .before .before .before .loop-test .taken) (c .before .before .before .serves .ensures) (c .if1 .left)
 
 same-length-2 : tie.Need-same-length-2 Inv-loop μ-loop
 same-length-2 c = c .before .loop .inv .long
@@ -35,17 +39,5 @@ returns-2 c = laws.trying-end _ _ _ _ _ _ _ (c .before .loop .inv) (c .loop-test
 
 pub first-serving-spec : {M : Type 1} → statement M
 first-serving-spec =
-    tie.close
-    (tie.spec
-    Inv-loop
-    μ-loop
-    (λ c κs. search needs)
-    loop-holds
-    serves-requires
-    same-length
-    returns
-    (λ c. omega arith)
-    (λ c. omega arith)
-    loop-again
-    same-length-2
-    returns-2)
+    tie.close (tie.spec Inv-loop μ-loop (λ c κs. search needs) loop-holds serves-requires same-length returns (λ c. omega arith) (λ c. omega arith) loop-again
+    same-length-2 returns-2)

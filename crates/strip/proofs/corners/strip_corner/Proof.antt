@@ -5,63 +5,29 @@ use borrow.Author.Needs.{needs}
 use Rattle.strip.proofs.corners.strip_corner.Statement.{statement}
 use Rattle.strip.proofs.corners.strip_corner.Tie as tie
 
-count-requires : tie.Need-count-requires
-count-requires c κs = search needs
-
-corner-at-requires : tie.Need-corner-at-requires
-corner-at-requires c κs = search needs
-
 returns : tie.Need-returns
 returns c = laws.of-lower _ _ _ _ _ _ _ (c .before .before .count .ensures .0) (c .before .if1 .taken) (c .corner-at .ensures)
 
-count-requires-2 : tie.Need-count-requires-2
-count-requires-2 c κs = search needs
-
-shorter-requires : tie.Need-shorter-requires
-shorter-requires c κs = search needs
-
-from-end-requires : tie.Need-from-end-requires
-from-end-requires c κs = search needs
-
 returns-2 : tie.Need-returns-2
-returns-2 c = laws.of-none _ _ _ _ _ _ _ (c .before .before .before .before .before .count .ensures .0) _ _ (c .before .before .before .count2 .ensures .0) (c .before .before .shorter .ensures) (c .before .before .before .before .if1 .left) (c .before .if2 .taken) (c .from-end .ensures)
-
-u-at-requires : tie.Need-u-at-requires
-u-at-requires c κs = search needs
-
-corner-at-requires-2 : tie.Need-corner-at-requires-2
-corner-at-requires-2 c κs = search needs
-
-moved-to-requires : tie.Need-moved-to-requires
-moved-to-requires c κs = search needs
+returns-2 c =
+    laws.of-none _ _ _ _ _ _ _ (c .before .before .before .before .before .count .ensures .0) _ _ (c .before .before .before .count2 .ensures .0)
+    (c .before .before .shorter .ensures) (c .before .before .before .before .if1 .left) (c .before .if2 .taken) (c .from-end .ensures)
 
 returns-3 : tie.Need-returns-3
-returns-3 c = laws.of-first _ _ _ _ _ _ _ (c .before .before .before .before .before .before .before .before .count .ensures .0) _ _ (c .before .before .before .before .before .before .count2 .ensures .0) (c .before .before .before .before .before .shorter .ensures) (c .before .before .before .before .before .before .before .if1 .left) (c .before .before .before .before .if2 .left) _ (c .before .before .before .u-at .ensures ∙ u-at _ 0) _ (c .before .before .if3 .taken) (c .before .corner-at2 .ensures) (c .moved-to .ensures)
-
-sub-far-corner : tie.Need-sub-far-corner
-sub-far-corner c = search needs
-
-far-corner-requires : tie.Need-far-corner-requires
-far-corner-requires c κs = search needs
+returns-3 c =
+    laws.of-first _ _ _ _ _ _ _ (c .before .before .before .before .before .before .before .before .count .ensures .0) _ _
+    (c .before .before .before .before .before .before .count2 .ensures .0) (c .before .before .before .before .before .shorter .ensures)
+    (c .before .before .before .before .before .before .before .if1 .left) (c .before .before .before .before .if2 .left) _
+    (c .before .before .before .u-at .ensures ∙ u-at _ 0) _ (c .before .before .if3 .taken) (c .before .corner-at2 .ensures) (c .moved-to .ensures)
 
 returns-4 : tie.Need-returns-4
-returns-4 c = laws.of-far _ _ _ _ _ _ _ (c .before .before .before .before .before .before .before .count .ensures .0) _ _ (c .before .before .before .before .before .count2 .ensures .0) (c .before .before .before .before .shorter .ensures) (c .before .before .before .before .before .before .if1 .left) (c .before .before .before .if2 .left) _ (c .before .before .u-at .ensures ∙ u-at _ 0) (c .before .if3 .left) (c .far-corner .ensures)
+returns-4 c =
+    laws.of-far _ _ _ _ _ _ _ (c .before .before .before .before .before .before .before .count .ensures .0) _ _
+    (c .before .before .before .before .before .count2 .ensures .0) (c .before .before .before .before .shorter .ensures)
+    (c .before .before .before .before .before .before .if1 .left) (c .before .before .before .if2 .left) _ (c .before .before .u-at .ensures ∙ u-at _ 0)
+    (c .before .if3 .left) (c .far-corner .ensures)
 
 pub strip-corner-spec : {M : Type 1} → statement M
 strip-corner-spec =
-    tie.close
-    (tie.spec
-    count-requires
-    corner-at-requires
-    returns
-    count-requires-2
-    shorter-requires
-    from-end-requires
-    returns-2
-    u-at-requires
-    corner-at-requires-2
-    moved-to-requires
-    returns-3
-    sub-far-corner
-    far-corner-requires
-    returns-4)
+    tie.close (tie.spec (λ c κs. search needs) (λ c κs. search needs) returns (λ c κs. search needs) (λ c κs. search needs) (λ c κs. search needs) returns-2
+    (λ c κs. search needs) (λ c κs. search needs) (λ c κs. search needs) returns-3 (λ c. search needs) (λ c κs. search needs) returns-4)

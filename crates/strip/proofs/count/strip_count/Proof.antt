@@ -3,27 +3,11 @@ use Rattle.strip.proofs.count.Laws as laws
 use Rattle.strip.proofs.count.strip_count.Statement.{statement}
 use Rattle.strip.proofs.count.strip_count.Tie as tie
 
-saturating-add-requires : tie.Need-saturating-add-requires
-saturating-add-requires c κs = search needs
-
-saturating-add-requires-2 : tie.Need-saturating-add-requires-2
-saturating-add-requires-2 c κs = search needs
-
-saturating-add-requires-3 : tie.Need-saturating-add-requires-3
-saturating-add-requires-3 c κs = search needs
-
-saturating-add-requires-4 : tie.Need-saturating-add-requires-4
-saturating-add-requires-4 c κs = search needs
-
 returns : tie.Need-returns
-returns c = laws.capped-sums _ _ _ _ _ _ _ (c .before .before .before .saturating-add .ensures) (c .before .before .saturating-add2 .ensures) (c .before .saturating-add3 .ensures) (c .saturating-add4 .ensures)
+returns c =
+    laws.capped-sums _ _ _ _ _ _ _ (c .before .before .before .saturating-add .ensures) (c .before .before .saturating-add2 .ensures)
+    (c .before .saturating-add3 .ensures) (c .saturating-add4 .ensures)
 
 pub strip-count-spec : {M : Type 1} → statement M
 strip-count-spec =
-    tie.close
-    (tie.spec
-    saturating-add-requires
-    saturating-add-requires-2
-    saturating-add-requires-3
-    saturating-add-requires-4
-    returns)
+    tie.close (tie.spec (λ c κs. search needs) (λ c κs. search needs) (λ c κs. search needs) (λ c κs. search needs) returns)

@@ -17,26 +17,14 @@ abbrev μ-loop : tie.MeasureT-loop
 loop-holds : tie.Need-loop-holds Inv-loop μ-loop
 loop-holds c = laws.spreading _ _ _ (c .before .pre)
 
-sub-i : tie.Need-sub-i Inv-loop μ-loop
-sub-i c = omega arith
-
-mul-v : tie.Need-mul-v Inv-loop μ-loop
-mul-v c = omega arith
-
-slice-read-v : tie.Need-slice-read-v Inv-loop μ-loop
-slice-read-v c = omega arith
-
-point-at-requires : tie.Need-point-at-requires Inv-loop μ-loop
-point-at-requires c κs = search needs
-
-put-corner-requires : tie.Need-put-corner-requires Inv-loop μ-loop
-put-corner-requires c κs = search needs
-
-loop-less : tie.Need-loop-less Inv-loop μ-loop
-loop-less c = omega arith
-
 loop-again : tie.Need-loop-again Inv-loop μ-loop
-loop-again c = laws.spread-turn _ _ _ _ _ _ (record { u = c .before .before .before .before .before .before .before .before .before .args .u; v = getD (c .before .before .before .before .before .before .before .loop .wall) (c .before .before .before .before .before .before .before .loop .i - 1) nan; at = c .before .before .before .before .point-at .result }) (c .before .before .before .before .before .before .before .loop .inv) (c .before .before .before .before .before .before .loop-test .taken) (λ k. record { u = c .before .before .before .before .before .before .before .before .before .args .u; v = getD (c .before .before .before .before .before .before .before .loop .wall) (c .before .before .before .before .before .before .before .loop .i - 1) nan; at = c .before .before .before .before .point-at .ensures k }) (c .before .before .put-corner .ensures) (c .before .wall .given)
+loop-again c =
+    let start = c .before .before .before .before .before .before .before .before .before in
+    laws.spread-turn _ _ _ _ _ _
+    (record { u = start .args .u; v = getD (c .before .before .before .before .before .before .before .loop .wall) (c .before .before .before .before .before .before .before .loop .i - 1) nan; at = c .before .before .before .before .point-at .result })
+    (c .before .before .before .before .before .before .before .loop .inv) (c .before .before .before .before .before .before .loop-test .taken)
+    (λ k. record { u = start .args .u; v = getD (c .before .before .before .before .before .before .before .loop .wall) (c .before .before .before .before .before .before .before .loop .i - 1) nan; at = c .before .before .before .before .point-at .ensures k })
+    (c .before .before .put-corner .ensures) (c .before .wall .given)
 
 same-length : tie.Need-same-length Inv-loop μ-loop
 same-length c = c .before .loop .inv .long
@@ -46,17 +34,5 @@ returns c = laws.spread-end _ _ _ _ _ (c .before .loop .inv) (c .loop-test .left
 
 pub spread-spec : {M : Type 1} → statement M
 spread-spec =
-    tie.close
-    (tie.spec
-    Inv-loop
-    μ-loop
-    loop-holds
-    sub-i
-    mul-v
-    slice-read-v
-    point-at-requires
-    put-corner-requires
-    loop-less
-    loop-again
-    same-length
-    returns)
+    tie.close (tie.spec Inv-loop μ-loop loop-holds (λ c. omega arith) (λ c. omega arith) (λ c. omega arith) (λ c κs. search needs) (λ c κs. search needs)
+    (λ c. omega arith) loop-again same-length returns)

@@ -6,16 +6,10 @@ use borrow.Author.Needs.{needs}
 use Rattle.surfaces.proofs.knots.inner_count.Statement.{statement}
 use Rattle.surfaces.proofs.knots.inner_count.Tie as tie
 
-merge-even-steps-requires : tie.Need-merge-even-steps-requires
-merge-even-steps-requires c κs = search needs
-
-less-one-requires : tie.Need-less-one-requires
-less-one-requires c κs = search needs
-
 returns : tie.Need-returns
 returns c =
     let count = laws.inner-counted _ (c .before .merge-even-steps .ensures .0) (c .less-one .ensures) in
     (count, (inner-end _ _ _ _ count, count ∙ ap length (inner-kept _ _ _)))
 
 pub inner-count-spec : {M : Type 1} → statement M
-inner-count-spec = tie.close (tie.spec merge-even-steps-requires less-one-requires returns)
+inner-count-spec = tie.close (tie.spec (λ c κs. search needs) (λ c κs. search needs) returns)

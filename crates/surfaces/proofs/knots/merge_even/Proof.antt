@@ -12,85 +12,45 @@ Inv-loop lo hi n from out₀ e last₀ k₀ i₀ out last k i = walk.Writing lo 
 abbrev μ-loop : tie.MeasureT-loop
 μ-loop lo hi n from out₀ e last₀ k₀ i₀ out last k i = n - i
 
-slack-requires : tie.Need-slack-requires Inv-loop μ-loop
-slack-requires c κs = search needs
-
-division-requires : tie.Need-division-requires Inv-loop μ-loop
-division-requires c κs = search needs
-
-put-requires : tie.Need-put-requires Inv-loop μ-loop
-put-requires c κs = search needs
-
 loop-holds : tie.Need-loop-holds Inv-loop μ-loop
 loop-holds c = walk.writing-start _ _ _ _ _ _ (c .before .before .before .before .before .slack .ensures) (c .before .before .before .before .division .ensures)
 
-add-i : tie.Need-add-i Inv-loop μ-loop
-add-i c = omega arith
-
-division-requires-2 : tie.Need-division-requires-2 Inv-loop μ-loop
-division-requires-2 c κs = search needs
-
-near-requires : tie.Need-near-requires Inv-loop μ-loop
-near-requires c κs = search needs
-
-add-k : tie.Need-add-k Inv-loop μ-loop
-add-k c = omega arith
-
-put-requires-2 : tie.Need-put-requires-2 Inv-loop μ-loop
-put-requires-2 c κs = search needs
-
-loop-less : tie.Need-loop-less Inv-loop μ-loop
-loop-less c = omega arith
-
 loop-again : tie.Need-loop-again Inv-loop μ-loop
-loop-again c = walk.writing-far _ _ _ _ _ _ (c .before .before .before .before .before .before .before .before .loop .inv) (c .before .before .before .before .before .before .before .loop-test .taken) (c .before .before .before .before .before .before .division2 .ensures) (c .before .before .before .before .before .near .ensures) (c .before .before .before .before .if1 .taken) (c .before .before .put2 .ensures)
-
-loop-less-2 : tie.Need-loop-less-2 Inv-loop μ-loop
-loop-less-2 c = omega arith
+loop-again c =
+    walk.writing-far _ _ _ _ _ _ (c .before .before .before .before .before .before .before .before .loop .inv)
+    (c .before .before .before .before .before .before .before .loop-test .taken) (c .before .before .before .before .before .before .division2 .ensures)
+    (c .before .before .before .before .before .near .ensures) (c .before .before .before .before .if1 .taken) (c .before .before .put2 .ensures)
 
 loop-again-2 : tie.Need-loop-again-2 Inv-loop μ-loop
-loop-again-2 c = walk.writing-near _ _ _ _ _ _ (c .before .before .before .before .loop .inv) (c .before .before .before .loop-test .taken) (c .before .before .division2 .ensures) (c .before .near .ensures) (c .if1 .left)
-
-larger-requires : tie.Need-larger-requires Inv-loop μ-loop
-larger-requires c κs = search needs
-
-put-requires-3 : tie.Need-put-requires-3 Inv-loop μ-loop
-put-requires-3 c κs = search needs
+loop-again-2 c =
+    walk.writing-near _ _ _ _ _ _ (c .before .before .before .before .loop .inv) (c .before .before .before .loop-test .taken)
+    (c .before .before .division2 .ensures) (c .before .near .ensures) (c .if1 .left)
 
 same-length : tie.Need-same-length Inv-loop μ-loop
-same-length c = c .before .before .put3 .kept .0 ∙ c .before .before .before .before .before .before .before .loop .inv .long ∙ c .before .before .before .before .before .before .before .before .before .before .put .kept .0
+same-length c =
+    c .before .before .put3 .kept .0 ∙ c .before .before .before .before .before .before .before .loop .inv .long ∙ c .before .before .before .before .before
+    .before .before .before .before .before .put .kept .0
 
 returns : tie.Need-returns Inv-loop μ-loop
-returns c = walk.writing-ended _ _ _ _ _ _ (c .before .before .before .before .before .before .before .loop .inv) (c .before .before .before .before .before .before .loop-test .left) _ (c .before .before .before .before .before .before .before .before .before .before .before .before .before .slack .ensures) (c .before .before .before .before .before .before .before .before .before .before .before .before .division .ensures) (c .before .before .before .before .before .before .before .before .before .before .put .ensures) (c .before .before .before .before .before .if2 .taken) (c .before .before .before .larger .ensures) (c .before .before .put3 .ensures)
+returns c =
+    walk.writing-ended _ _ _ _ _ _ (c .before .before .before .before .before .before .before .loop .inv)
+    (c .before .before .before .before .before .before .loop-test .left) _
+    (c .before .before .before .before .before .before .before .before .before .before .before .before .before .slack .ensures)
+    (c .before .before .before .before .before .before .before .before .before .before .before .before .division .ensures)
+    (c .before .before .before .before .before .before .before .before .before .before .put .ensures) (c .before .before .before .before .before .if2 .taken)
+    (c .before .before .before .larger .ensures) (c .before .before .put3 .ensures)
 
 same-length-2 : tie.Need-same-length-2 Inv-loop μ-loop
 same-length-2 c = c .before .before .loop .inv .long ∙ c .before .before .before .before .before .put .kept .0
 
 returns-2 : tie.Need-returns-2 Inv-loop μ-loop
-returns-2 c = walk.writing-end _ _ _ _ _ _ (c .before .before .loop .inv) (c .before .loop-test .left) _ (c .before .before .before .before .before .before .before .before .slack .ensures) (c .before .before .before .before .before .before .before .division .ensures) (c .before .before .before .before .before .put .ensures) (c .if2 .left)
+returns-2 c =
+    walk.writing-end _ _ _ _ _ _ (c .before .before .loop .inv) (c .before .loop-test .left) _
+    (c .before .before .before .before .before .before .before .before .slack .ensures)
+    (c .before .before .before .before .before .before .before .division .ensures) (c .before .before .before .before .before .put .ensures) (c .if2 .left)
 
 pub merge-even-spec : {M : Type 1} → statement M
 merge-even-spec =
-    tie.close
-    (tie.spec
-    Inv-loop
-    μ-loop
-    slack-requires
-    division-requires
-    put-requires
-    loop-holds
-    add-i
-    division-requires-2
-    near-requires
-    add-k
-    put-requires-2
-    loop-less
-    loop-again
-    loop-less-2
-    loop-again-2
-    larger-requires
-    put-requires-3
-    same-length
-    returns
-    same-length-2
-    returns-2)
+    tie.close (tie.spec Inv-loop μ-loop (λ c κs. search needs) (λ c κs. search needs) (λ c κs. search needs) loop-holds (λ c. omega arith)
+    (λ c κs. search needs) (λ c κs. search needs) (λ c. omega arith) (λ c κs. search needs) (λ c. omega arith) loop-again (λ c. omega arith) loop-again-2
+    (λ c κs. search needs) (λ c κs. search needs) same-length returns same-length-2 returns-2)

@@ -3,15 +3,6 @@ use borrow.Author.Needs.{needs}
 use Rattle.surfaces.proofs.knots.put.Statement.{statement}
 use Rattle.surfaces.proofs.knots.put.Tie as tie
 
-mul-s : tie.Need-mul-s
-mul-s c = search needs
-
-slice-write-s : tie.Need-slice-write-s
-slice-write-s c = search needs
-
-same-length : tie.Need-same-length
-same-length c = search needs
-
 returns : tie.Need-returns
 returns c = walk.place-in _ _ _ _ (c .before .if1 .taken)
 
@@ -22,4 +13,4 @@ returns-3 : tie.Need-returns-3
 returns-3 c = walk.place-before _ _ _ _ (c .if1 .left)
 
 pub put-spec : {M : Type 1} → statement M
-put-spec = tie.close (tie.spec mul-s slice-write-s same-length returns returns-2 returns-3)
+put-spec = tie.close (tie.spec (λ c. search needs) (λ c. search needs) (λ c. search needs) returns returns-2 returns-3)

@@ -4,18 +4,6 @@ use borrow.Author.Needs.{needs}
 use Rattle.surfaces.proofs.steps.direction_steps.Statement.{statement}
 use Rattle.surfaces.proofs.steps.direction_steps.Tie as tie
 
-enum-told : tie.Need-enum-told
-enum-told c = search needs
-
-around-steps-requires : tie.Need-around-steps-requires
-around-steps-requires c κs = search needs
-
-enum-told-2 : tie.Need-enum-told-2
-enum-told-2 c = search needs
-
-along-steps-requires : tie.Need-along-steps-requires
-along-steps-requires c κs = search needs
-
 returns : tie.Need-returns
 unfolding directionStepsOf
 returns c = laws.direction (c .before .enum-told .given .1) _ _ _ _ _ (c .around-steps .ensures)
@@ -26,5 +14,4 @@ returns-2 c = laws.direction (c .before .enum-told2 .given .1) _ _ _ _ _ (c .alo
 
 pub direction-steps-spec : {M : Type 1} → statement M
 direction-steps-spec =
-    tie.close
-    (tie.spec enum-told around-steps-requires enum-told-2 along-steps-requires returns returns-2)
+    tie.close (tie.spec (λ c. search needs) (λ c κs. search needs) (λ c. search needs) (λ c κs. search needs) returns returns-2)

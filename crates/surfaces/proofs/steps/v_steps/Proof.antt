@@ -4,36 +4,6 @@ use borrow.Author.Needs.{needs}
 use Rattle.surfaces.proofs.steps.v_steps.Statement.{statement}
 use Rattle.surfaces.proofs.steps.v_steps.Tie as tie
 
-enum-told : tie.Need-enum-told
-enum-told c = search needs
-
-larger-requires : tie.Need-larger-requires
-larger-requires c κs = search needs
-
-enum-told-2 : tie.Need-enum-told-2
-enum-told-2 c = search needs
-
-larger-requires-2 : tie.Need-larger-requires-2
-larger-requires-2 c κs = search needs
-
-enum-told-3 : tie.Need-enum-told-3
-enum-told-3 c = search needs
-
-larger-requires-3 : tie.Need-larger-requires-3
-larger-requires-3 c κs = search needs
-
-enum-known-surface : tie.Need-enum-known-surface
-enum-known-surface c = search needs
-
-segments-for-arc-requires : tie.Need-segments-for-arc-requires
-segments-for-arc-requires c κs = search needs
-
-enum-known-surface-2 : tie.Need-enum-known-surface-2
-enum-known-surface-2 c = search needs
-
-segments-for-arc-requires-2 : tie.Need-segments-for-arc-requires-2
-segments-for-arc-requires-2 c κs = search needs
-
 returns : tie.Need-returns
 unfolding vStepsOf
 returns c = laws.v-steps (c .before .enum-told .given .1) _ _ _ (c .larger .ensures)
@@ -56,20 +26,5 @@ returns-5 c = laws.v-steps (c .before .before .surface2 .given .1) _ _ _ (c .seg
 
 pub v-steps-spec : {M : Type 1} → statement M
 v-steps-spec =
-    tie.close
-    (tie.spec
-    enum-told
-    larger-requires
-    enum-told-2
-    larger-requires-2
-    enum-told-3
-    larger-requires-3
-    enum-known-surface
-    segments-for-arc-requires
-    enum-known-surface-2
-    segments-for-arc-requires-2
-    returns
-    returns-2
-    returns-3
-    returns-4
-    returns-5)
+    tie.close (tie.spec (λ c. search needs) (λ c κs. search needs) (λ c. search needs) (λ c κs. search needs) (λ c. search needs) (λ c κs. search needs)
+    (λ c. search needs) (λ c κs. search needs) (λ c. search needs) (λ c κs. search needs) returns returns-2 returns-3 returns-4 returns-5)

@@ -3,20 +3,14 @@ use borrow.Author.Needs.{needs}
 use Rattle.surfaces.proofs.surface.cone_range.Statement.{statement}
 use Rattle.surfaces.proofs.surface.cone_range.Tie as tie
 
-abs-requires : tie.Need-abs-requires
-abs-requires c κs = search needs
-
 returns : tie.Need-returns
 returns c = laws.opens-up _ _ (c .before .before .abs .ensures) (c .before .if1 .taken) (c .if2 .taken)
 
 returns-2 : tie.Need-returns-2
 returns-2 c = laws.opens-down _ _ (c .before .before .abs .ensures) (c .before .if1 .taken) (c .if2 .left)
 
-unbounded-requires : tie.Need-unbounded-requires
-unbounded-requires c κs = search needs
-
 returns-3 : tie.Need-returns-3
 returns-3 c = laws.opens-not _ _ (c .before .before .abs .ensures) (c .before .if1 .left) (c .unbounded .ensures)
 
 pub cone-range-spec : {M : Type 1} → statement M
-cone-range-spec = tie.close (tie.spec abs-requires returns returns-2 unbounded-requires returns-3)
+cone-range-spec = tie.close (tie.spec (λ c κs. search needs) returns returns-2 (λ c κs. search needs) returns-3)

@@ -3,14 +3,8 @@ use borrow.Author.Needs.{needs}
 use Rattle.surfaces.proofs.surface.sphere_at.Statement.{statement}
 use Rattle.surfaces.proofs.surface.sphere_at.Tie as tie
 
-sin-cos-requires : tie.Need-sin-cos-requires
-sin-cos-requires c κs = search needs
-
-raised-requires : tie.Need-raised-requires
-raised-requires c κs = search needs
-
 returns : tie.Need-returns
 returns c = laws.sphere-law _ _ _ _ (c .before .before .before .sin-cos .ensures) (c .raised .ensures)
 
 pub sphere-at-spec : {M : Type 1} → statement M
-sphere-at-spec = tie.close (tie.spec sin-cos-requires raised-requires returns)
+sphere-at-spec = tie.close (tie.spec (λ c κs. search needs) (λ c κs. search needs) returns)

@@ -3,14 +3,8 @@ use borrow.Author.Needs.{needs}
 use Rattle.surfaces.proofs.surface.torus_at.Statement.{statement}
 use Rattle.surfaces.proofs.surface.torus_at.Tie as tie
 
-sin-cos-requires : tie.Need-sin-cos-requires
-sin-cos-requires c κs = search needs
-
-raised-requires : tie.Need-raised-requires
-raised-requires c κs = search needs
-
 returns : tie.Need-returns
 returns c = laws.torus-law _ _ _ _ _ (c .before .before .before .sin-cos .ensures) (c .raised .ensures)
 
 pub torus-at-spec : {M : Type 1} → statement M
-torus-at-spec = tie.close (tie.spec sin-cos-requires raised-requires returns)
+torus-at-spec = tie.close (tie.spec (λ c κs. search needs) (λ c κs. search needs) returns)

@@ -13,29 +13,11 @@ Inv-loop dst₀ t n i₀ dst i = Taking (λ (c : Corner Vec3). c .u) t dst₀ n 
 abbrev μ-loop : tie.MeasureT-loop
 μ-loop dst₀ t n i₀ dst i = n - i
 
-count-requires : tie.Need-count-requires Inv-loop μ-loop
-count-requires c κs = search needs
-
 returns : tie.Need-returns Inv-loop μ-loop
 returns c = taking-none _ _ _ _ (c .before .count .ensures .0) (c .if1 .taken)
 
 loop-holds : tie.Need-loop-holds Inv-loop μ-loop
 loop-holds c = taking _ _ _ _ (c .before .count .ensures .0) (c .if1 .left)
-
-u-at-requires : tie.Need-u-at-requires Inv-loop μ-loop
-u-at-requires c κs = search needs
-
-mul-dst : tie.Need-mul-dst Inv-loop μ-loop
-mul-dst c = omega arith
-
-slice-write-dst : tie.Need-slice-write-dst Inv-loop μ-loop
-slice-write-dst c = omega arith
-
-add-i : tie.Need-add-i Inv-loop μ-loop
-add-i c = omega arith
-
-loop-less : tie.Need-loop-less Inv-loop μ-loop
-loop-less c = omega arith
 
 loop-again : tie.Need-loop-again Inv-loop μ-loop
 loop-again c = taking-turn _ _ _ _ _ _ _ (c .before .before .loop .inv) (c .before .loop-test .taken) (c .u-at .ensures)
@@ -48,18 +30,5 @@ returns-2 c = taking-end _ _ _ _ _ _ (c .before .loop .inv) (c .loop-test .left)
 
 pub us-into-spec : {M : Type 1} → statement M
 us-into-spec =
-    tie.close
-    (tie.spec
-    Inv-loop
-    μ-loop
-    count-requires
-    returns
-    loop-holds
-    u-at-requires
-    mul-dst
-    slice-write-dst
-    add-i
-    loop-less
-    loop-again
-    same-length
-    returns-2)
+    tie.close (tie.spec Inv-loop μ-loop (λ c κs. search needs) returns loop-holds (λ c κs. search needs) (λ c. omega arith) (λ c. omega arith)
+    (λ c. omega arith) (λ c. omega arith) loop-again same-length returns-2)

@@ -1,18 +1,9 @@
 use Rattle.tables.proofs.Rows.{u-at-place, u-at-past}
 use lib.Ieee.{div, ofBits}
-use mathlib.Core.Path.{refl, sym, _∙_, ap}
+use mathlib.Core.Path.{sym}
 use borrow.Author.Needs.{needs}
 use Rattle.tables.proofs.corners.u_at.Statement.{statement}
 use Rattle.tables.proofs.corners.u_at.Tie as tie
-
-mul-result : tie.Need-mul-result
-mul-result c = search needs
-
-mul-result-2 : tie.Need-mul-result-2
-mul-result-2 c = search needs
-
-shared-slice-read-result : tie.Need-shared-slice-read-result
-shared-slice-read-result c = search needs
 
 returns : tie.Need-returns
 returns c = sym (u-at-place _ _ (c .before .if1 .taken))
@@ -22,4 +13,4 @@ unfolding div ofBits
 returns-2 c = sym (u-at-past _ _ (c .if1 .left))
 
 pub u-at-spec : {M : Type 1} → statement M
-u-at-spec = tie.close (tie.spec mul-result mul-result-2 shared-slice-read-result returns returns-2)
+u-at-spec = tie.close (tie.spec (λ c. search needs) (λ c. search needs) (λ c. search needs) returns returns-2)

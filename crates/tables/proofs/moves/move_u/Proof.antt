@@ -13,29 +13,14 @@ Inv-loop t₀ m n i₀ t i = Changing (moveU (movedBy m)) t₀ n t i
 abbrev μ-loop : tie.MeasureT-loop
 μ-loop t₀ m n i₀ t i = n - i
 
-count-requires : tie.Need-count-requires Inv-loop μ-loop
-count-requires c κs = search needs
-
 loop-holds : tie.Need-loop-holds Inv-loop μ-loop
 loop-holds c = changing _ _ _ (c .count .ensures .0)
 
-u-at-requires : tie.Need-u-at-requires Inv-loop μ-loop
-u-at-requires c κs = search needs
-
-moved-requires : tie.Need-moved-requires Inv-loop μ-loop
-moved-requires c κs = search needs
-
-put-u-requires : tie.Need-put-u-requires Inv-loop μ-loop
-put-u-requires c κs = search needs
-
-add-i : tie.Need-add-i Inv-loop μ-loop
-add-i c = omega arith
-
-loop-less : tie.Need-loop-less Inv-loop μ-loop
-loop-less c = omega arith
-
 loop-again : tie.Need-loop-again Inv-loop μ-loop
-loop-again c = moving-turn _ _ _ _ _ _ _ _ (c .before .before .before .before .before .before .before .before .loop .inv) (c .before .before .before .before .before .before .before .loop-test .taken) (c .before .before .before .before .u-at .ensures) (c .before .before .before .moved .ensures) (search needs) (c .before .before .put-u .ensures)
+loop-again c =
+    moving-turn _ _ _ _ _ _ _ _ (c .before .before .before .before .before .before .before .before .loop .inv)
+    (c .before .before .before .before .before .before .before .loop-test .taken) (c .before .before .before .before .u-at .ensures)
+    (c .before .before .before .moved .ensures) (search needs) (c .before .before .put-u .ensures)
 
 same-length : tie.Need-same-length Inv-loop μ-loop
 same-length c = c .before .loop .inv .long
@@ -45,17 +30,5 @@ returns c = changing-end _ _ _ _ _ (c .before .loop .inv) (c .loop-test .left)
 
 pub move-u-spec : {M : Type 1} → statement M
 move-u-spec =
-    tie.close
-    (tie.spec
-    Inv-loop
-    μ-loop
-    count-requires
-    loop-holds
-    u-at-requires
-    moved-requires
-    put-u-requires
-    add-i
-    loop-less
-    loop-again
-    same-length
-    returns)
+    tie.close (tie.spec Inv-loop μ-loop (λ c κs. search needs) loop-holds (λ c κs. search needs) (λ c κs. search needs) (λ c κs. search needs)
+    (λ c. omega arith) (λ c. omega arith) loop-again same-length returns)

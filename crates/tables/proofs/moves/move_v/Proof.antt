@@ -14,29 +14,16 @@ Inv-loop t₀ m n i₀ t i = Changing (moveV (movedBy m)) t₀ n t i
 abbrev μ-loop : tie.MeasureT-loop
 μ-loop t₀ m n i₀ t i = n - i
 
-count-requires : tie.Need-count-requires Inv-loop μ-loop
-count-requires c κs = search needs
-
 loop-holds : tie.Need-loop-holds Inv-loop μ-loop
 loop-holds c = changing _ _ _ (c .count .ensures .0)
 
-corner-at-requires : tie.Need-corner-at-requires Inv-loop μ-loop
-corner-at-requires c κs = search needs
-
-moved-requires : tie.Need-moved-requires Inv-loop μ-loop
-moved-requires c κs = search needs
-
-put-corner-requires : tie.Need-put-corner-requires Inv-loop μ-loop
-put-corner-requires c κs = search needs
-
-add-i : tie.Need-add-i Inv-loop μ-loop
-add-i c = omega arith
-
-loop-less : tie.Need-loop-less Inv-loop μ-loop
-loop-less c = omega arith
-
 loop-again : tie.Need-loop-again Inv-loop μ-loop
-loop-again c = changing-turn _ _ _ _ _ _ _ _ (c .before .before .before .before .before .before .before .before .before .loop .inv) (c .before .before .before .before .before .before .before .before .loop-test .taken) (c .before .before .before .before .before .before .corner-at .ensures) (moved-v (movedBy (c .before .before .before .before .before .before .before .before .before .before .before .before .before .args .m)) (cornerOf (c .before .before .before .before .before .before .corner-at .result)) _ (c .before .before .before .moved .ensures)) (search needs) (c .before .before .put-corner .ensures)
+loop-again c =
+    changing-turn _ _ _ _ _ _ _ _ (c .before .before .before .before .before .before .before .before .before .loop .inv)
+    (c .before .before .before .before .before .before .before .before .loop-test .taken)
+    (c .before .before .before .before .before .before .corner-at .ensures)
+    (moved-v (movedBy (c .before .before .before .before .before .before .before .before .before .before .before .before .before .args .m)) (cornerOf (c .before .before .before .before .before .before .corner-at .result)) _ (c .before .before .before .moved .ensures))
+    (search needs) (c .before .before .put-corner .ensures)
 
 same-length : tie.Need-same-length Inv-loop μ-loop
 same-length c = c .before .loop .inv .long
@@ -46,17 +33,5 @@ returns c = changing-end _ _ _ _ _ (c .before .loop .inv) (c .loop-test .left)
 
 pub move-v-spec : {M : Type 1} → statement M
 move-v-spec =
-    tie.close
-    (tie.spec
-    Inv-loop
-    μ-loop
-    count-requires
-    loop-holds
-    corner-at-requires
-    moved-requires
-    put-corner-requires
-    add-i
-    loop-less
-    loop-again
-    same-length
-    returns)
+    tie.close (tie.spec Inv-loop μ-loop (λ c κs. search needs) loop-holds (λ c κs. search needs) (λ c κs. search needs) (λ c κs. search needs)
+    (λ c. omega arith) (λ c. omega arith) loop-again same-length returns)

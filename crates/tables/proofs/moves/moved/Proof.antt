@@ -5,18 +5,6 @@ use borrow.Author.Needs.{needs}
 use Rattle.tables.proofs.moves.moved.Statement.{statement}
 use Rattle.tables.proofs.moves.moved.Tie as tie
 
-enum-told : tie.Need-enum-told
-enum-told c = search needs
-
-enum-known-m : tie.Need-enum-known-m
-enum-known-m c = search needs
-
-enum-known-m-2 : tie.Need-enum-known-m-2
-enum-known-m-2 c = search needs
-
-returns : tie.Need-returns
-returns c = search needs
-
 returns-2 : tie.Need-returns-2
 returns-2 c = sym (ap (λ (m : Move). movedBy m (c .before .before .before .args .x)) (c .before .m .given .1))
 
@@ -24,4 +12,5 @@ returns-3 : tie.Need-returns-3
 returns-3 c = sym (ap (λ (m : Move). movedBy m (c .before .before .before .args .x)) (c .before .m2 .given .1))
 
 pub moved-spec : {M : Type 1} → statement M
-moved-spec = tie.close (tie.spec enum-told enum-known-m enum-known-m-2 returns returns-2 returns-3)
+moved-spec =
+    tie.close (tie.spec (λ c. search needs) (λ c. search needs) (λ c. search needs) (λ c. search needs) returns-2 returns-3)

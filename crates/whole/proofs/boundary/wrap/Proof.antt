@@ -12,11 +12,4 @@ unfolding wrapOf
 returns-2 c = rw (c .before .enum-told2 .given .1, c .wrap-end .ensures)
 
 pub wrap-spec : {M : Type 1} → statement M
-wrap-spec =
-    tie.close
-    (tie.spec
-    (λ c. search needs)
-    (λ c. search needs)
-    (λ c κs. search needs)
-    returns
-    returns-2)
+wrap-spec = tie.close (tie.spec (λ c. search needs) (λ c. search needs) (λ c κs. search needs) returns returns-2)

@@ -39,18 +39,5 @@ returns c =
 
 pub put-boundary-spec : {M : Type 1} → statement M
 put-boundary-spec =
-    tie.close
-    (tie.spec
-    (λ c. search needs)
-    (λ c κs. search needs)
-    (λ c. search needs)
-    (λ c κs. search needs)
-    (λ c. search needs)
-    add-part
-    (λ c κs. search needs)
-    (λ c. search needs)
-    add-part-2
-    (λ c κs. search needs)
-    put-sides-requires
-    (λ c. search needs)
-    returns)
+    tie.close (tie.spec (λ c. search needs) (λ c κs. search needs) (λ c. search needs) (λ c κs. search needs) (λ c. search needs) add-part
+    (λ c κs. search needs) (λ c. search needs) add-part-2 (λ c κs. search needs) put-sides-requires (λ c. search needs) returns)

@@ -27,18 +27,5 @@ returns c = putting-end _ _ _ _ _ _ _ _ _ _ (c .before .loop .inv) (c .loop-test
 
 pub put-side-spec : {M : Type 1} → statement M
 put-side-spec =
-    tie.close
-    (tie.spec
-    Inv-loop
-    μ-loop
-    (λ c. putting _ _ _ _ _ _ _ _)
-    (λ c. omega arith)
-    (λ c κs. search needs)
-    (λ c. omega arith)
-    (λ c κs. search needs)
-    (λ c κs. search needs)
-    (λ c. omega arith)
-    (λ c. omega arith)
-    loop-again
-    same-length
-    returns)
+    tie.close (tie.spec Inv-loop μ-loop (λ c. putting _ _ _ _ _ _ _ _) (λ c. omega arith) (λ c κs. search needs) (λ c. omega arith) (λ c κs. search needs)
+    (λ c κs. search needs) (λ c. omega arith) (λ c. omega arith) loop-again same-length returns)

@@ -11,13 +11,5 @@ returns-2 c = rw (c .before .if1 .left) (walked-on (c .before .before .args .run
 
 pub rung-of-spec : {M : Type 1} → statement M
 rung-of-spec =
-    tie.close
-    (tie.spec
-    (λ c. search needs)
-    (λ c. search needs)
-    (λ c. search needs)
-    (λ c. search needs)
-    returns
-    (λ c. search needs)
-    (λ c. search needs)
+    tie.close (tie.spec (λ c. search needs) (λ c. search needs) (λ c. search needs) (λ c. search needs) returns (λ c. search needs) (λ c. search needs)
     returns-2)

@@ -3,22 +3,13 @@ use borrow.Author.Needs.{needs}
 use Rattle.wrapped_region.proofs.mean.mean_v.Statement.{statement}
 use Rattle.wrapped_region.proofs.mean.mean_v.Tie as tie
 
-count-requires : tie.Need-count-requires
-count-requires c κs = search needs
-
 returns : tie.Need-returns
 returns c = mean-none _ _ (c .before .count .ensures .0) (c .if1 .taken)
 
-sum-v-requires : tie.Need-sum-v-requires
-sum-v-requires c κs = search needs
-
-nearest-u64-to-f64-requires : tie.Need-nearest-u64-to-f64-requires
-nearest-u64-to-f64-requires c κs = search needs
-
 returns-2 : tie.Need-returns-2
-returns-2 c = mean-some _ _ _ _ (c .before .before .before .count .ensures .0) (c .before .before .if1 .left) (c .before .sum-v .ensures) (c .nearest-u64-to-f64 .ensures)
+returns-2 c =
+    mean-some _ _ _ _ (c .before .before .before .count .ensures .0) (c .before .before .if1 .left) (c .before .sum-v .ensures) (c .nearest-u64-to-f64 .ensures)
 
 pub mean-v-spec : {M : Type 1} → statement M
 mean-v-spec =
-    tie.close
-    (tie.spec count-requires returns sum-v-requires nearest-u64-to-f64-requires returns-2)
+    tie.close (tie.spec (λ c κs. search needs) returns (λ c κs. search needs) (λ c κs. search needs) returns-2)

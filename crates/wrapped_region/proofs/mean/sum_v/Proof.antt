@@ -2,7 +2,6 @@ use borrow.Author.Needs.{needs}
 use Prim.Native.Nat.{_-_}
 use mathlib.Core.Path.{_≡_, ap}
 use native.Mathlib.Omega.{arith}
-use borrow.Author.Needs.{needs}
 use lib.ListN.{length}
 use lib.Ieee.{Float, nan, neg}
 use Rattle.lists.proofs.Folds.{Folding, folding, folding-turn, folding-end}
@@ -21,23 +20,12 @@ Inv-loop t n s₀ i₀ s i = (n ≡ length (vs (rows t))) × Folding _⊕_ (neg 
 abbrev μ-loop : tie.MeasureT-loop
 μ-loop t n s₀ i₀ s i = n - i
 
-count-requires : tie.Need-count-requires Inv-loop μ-loop
-count-requires c κs = search needs
-
 loop-holds : tie.Need-loop-holds Inv-loop μ-loop
 loop-holds c = (count-v _ _ (c .count .ensures .0), folding _ _ _)
 
-v-at-requires : tie.Need-v-at-requires Inv-loop μ-loop
-v-at-requires c κs = search needs
-
-add-i : tie.Need-add-i Inv-loop μ-loop
-add-i c = omega arith
-
-loop-less : tie.Need-loop-less Inv-loop μ-loop
-loop-less c = omega arith
-
 loop-again : tie.Need-loop-again Inv-loop μ-loop
-loop-again c = (c .before .before .loop .inv .0, folding-turn _ _ _ nan _ _ _ (c .before .before .loop .inv .1) (omega (arith, c .before .before .loop .inv .0)) (ap (λ (x : Float). c .before .before .loop .s ⊕ x) (c .v-at .ensures)))
+loop-again c =
+    (c .before .before .loop .inv .0, folding-turn _ _ _ nan _ _ _ (c .before .before .loop .inv .1) (omega (arith, c .before .before .loop .inv .0)) (ap (λ (x : Float). c .before .before .loop .s ⊕ x) (c .v-at .ensures)))
 
 returns : tie.Need-returns Inv-loop μ-loop
 unfolding sumOf
@@ -45,14 +33,4 @@ returns c = folding-end _ _ _ _ _ (c .before .loop .inv .1) (omega (arith, c .be
 
 pub sum-v-spec : {M : Type 1} → statement M
 sum-v-spec =
-    tie.close
-    (tie.spec
-    Inv-loop
-    μ-loop
-    count-requires
-    loop-holds
-    v-at-requires
-    add-i
-    loop-less
-    loop-again
-    returns)
+    tie.close (tie.spec Inv-loop μ-loop (λ c κs. search needs) loop-holds (λ c κs. search needs) (λ c. omega arith) (λ c. omega arith) loop-again returns)

@@ -3,12 +3,6 @@ use borrow.Author.Needs.{needs}
 use Rattle.wrapped_region.proofs.order.first_is_lower.Statement.{statement}
 use Rattle.wrapped_region.proofs.order.first_is_lower.Tie as tie
 
-enum-told : tie.Need-enum-told
-enum-told c = search needs
-
-enum-known-period : tie.Need-enum-known-period
-enum-known-period c = search needs
-
 returns : tie.Need-returns
 returns c = search (below-with, needs)
 
@@ -26,5 +20,4 @@ returns-5 c = search (above-alone, needs)
 
 pub first-is-lower-spec : {M : Type 1} → statement M
 first-is-lower-spec =
-    tie.close
-    (tie.spec enum-told enum-known-period returns returns-2 returns-3 returns-4 returns-5)
+    tie.close (tie.spec (λ c. search needs) (λ c. search needs) returns returns-2 returns-3 returns-4 returns-5)

@@ -3,15 +3,9 @@ use borrow.Author.Needs.{needs}
 use Rattle.numbers.proofs.math.Vec3.length.Statement.{statement}
 use Rattle.numbers.proofs.math.Vec3.length.Tie as tie
 
-dot-requires : tie.Need-dot-requires
-dot-requires c κs = search needs
-
-sqrt-requires : tie.Need-sqrt-requires
-sqrt-requires c κs = search needs
-
 returns : tie.Need-returns
 unfolding lengthOf
 returns c = cc
 
 pub length-spec : {M : Type 1} → statement M
-length-spec = tie.close (tie.spec dot-requires sqrt-requires returns)
+length-spec = tie.close (tie.spec (λ c κs. search needs) (λ c κs. search needs) returns)

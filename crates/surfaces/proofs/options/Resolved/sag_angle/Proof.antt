@@ -3,12 +3,6 @@ use borrow.Author.Needs.{needs}
 use Rattle.surfaces.proofs.options.Resolved.sag_angle.Statement.{statement}
 use Rattle.surfaces.proofs.options.Resolved.sag_angle.Tie as tie
 
-clamp-requires : tie.Need-clamp-requires
-clamp-requires c κs = search needs
-
-acos-requires : tie.Need-acos-requires
-acos-requires c κs = search needs
-
 returns : tie.Need-returns
 returns c = laws.by-sag _ _ (c .before .before .before .if1 .taken) (c .before .clamp .ensures) (c .acos .ensures)
 
@@ -16,4 +10,4 @@ returns-2 : tie.Need-returns-2
 returns-2 c = laws.by-angle _ _ (c .if1 .left)
 
 pub sag-angle-spec : {M : Type 1} → statement M
-sag-angle-spec = tie.close (tie.spec clamp-requires acos-requires returns returns-2)
+sag-angle-spec = tie.close (tie.spec (λ c κs. search needs) (λ c κs. search needs) returns returns-2)
