@@ -5,7 +5,7 @@ use mathlib.Core.List.{List}
 use native.Mathlib.Nat.{zero-lt-suc}
 use native.Mathlib.Omega.{arith}
 use Rattle.records.specs.Call.{Outcome, refused}
-use Rattle.judgement.specs.Demands.{Demand1}
+use Rattle.call.specs.Demands.{Demand1}
 use Rattle.closer.specs.Returned.{answerOf}
 use Rattle.closer.specs.declared.Answer.{Answer}
 use Rattle.closer.specs.Returned.{codeOf, valueOf}

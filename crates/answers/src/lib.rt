@@ -6,7 +6,7 @@ ghost use lib.ListN.{length};
 ghost use lib.Seq.{sets};
 ghost use Rattle.records.specs.Bytes.{bytes};
 ghost use Rattle.records.specs.Call.{refused};
-ghost use Rattle.judgement.specs.Judge.{judge};
+ghost use Rattle.call.specs.Judge.{judge};
 ghost use Rattle.answers.specs.Written.{written, writtenLength, FoundIn};
 use closer::Answer;
 use closer::close_face;

@@ -10,9 +10,9 @@ use Rattle.lists.proofs.Placed.{front-placed}
 use Rattle.records.specs.Bytes.{bytes}
 use Rattle.records.specs.Call.{Outcome, refused, closed, output}
 use Rattle.records.specs.Limits.{version1}
-use Rattle.judgement.specs.Judge.{judge}
-use Rattle.judgement.proofs.Demands.{complete}
-use Rattle.judgement.proofs.Places.{prefix-alike}
+use Rattle.call.specs.Judge.{judge}
+use Rattle.call.proofs.Demands.{complete}
+use Rattle.call.proofs.Places.{prefix-alike}
 use Rattle.answers.specs.Written.{written, writtenLength, FoundIn}
 use Rattle.answers.proofs.Front.{wrote-within}
 

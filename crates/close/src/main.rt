@@ -6,7 +6,7 @@ ghost use Prim.Native.Nat.{ℕ, _≤_};
 ghost use lib.ListN.{length, take};
 ghost use Rattle.records.specs.Call.{output};
 ghost use Rattle.records.specs.Limits.{version1};
-ghost use Rattle.judgement.specs.Judge.{judge};
+ghost use Rattle.call.specs.Judge.{judge};
 ghost use Rattle.answers.specs.Written.{FoundIn};
 ghost use Rattle.close.specs.Input.{Within};
 use answers::write_answer;

@@ -17,7 +17,7 @@ use Rattle.tables.specs.Corners.{Corners}
 use Rattle.tables.specs.Rows.{rows}
 use Rattle.tables.proofs.PartRows.{rows-placed}
 use Rattle.tables.proofs.Rows.{length-rows, rows-take, rows-drop, rows-append}
-use Rattle.regions.proofs.MovedHoles.{flatten-snoc}
+use Rattle.closed_region.proofs.MovedHoles.{flatten-snoc}
 use Rattle.closed_face.specs.First.{partFirst}
 use Rattle.closed_face.proofs.first.Laws.{length-first}
 

@@ -18,16 +18,16 @@ use Rattle.lists.proofs.Placed.{placed-fits, front-placed}
 use Rattle.loops.specs.Area.{areaOf}
 use Rattle.loops.specs.Part.{partOf, raised}
 use Rattle.tables.specs.Corners.{Corners, us, vs, positions, cornersFrom}
-use Rattle.regions.specs.Loops.{areaIn, boxIn}
-use Rattle.regions.specs.Outer.{outerOf, holesOf}
-use Rattle.regions.specs.Region.{outerAmong}
-use Rattle.regions.specs.Rephase.{Loop, shiftOf, moved, rephased}
-use Rattle.regions.specs.Holes.{wholePeriods, shifted, uShift, vShift, inPhase, rephasedCorners, rephasedArea, loopThen, areaThen, loopsThen, areasThen, rephasedRows, rephasedAreas}
-use Rattle.regions.specs.declared.rephase.Branch.{Branch}
-use Rattle.regions.proofs.MovedHoles.{length-then, length-areas}
+use Rattle.closed_region.specs.Loops.{areaIn, boxIn}
+use Rattle.closed_region.specs.Outer.{outerOf, holesOf}
+use Rattle.closed_region.specs.Region.{outerAmong}
+use Rattle.closed_region.specs.Rephase.{Loop, shiftOf, moved, rephased}
+use Rattle.closed_region.specs.Holes.{wholePeriods, shifted, uShift, vShift, inPhase, rephasedCorners, rephasedArea, loopThen, areaThen, loopsThen, areasThen, rephasedRows, rephasedAreas}
+use Rattle.closed_region.specs.declared.rephase.Branch.{Branch}
+use Rattle.closed_region.proofs.MovedHoles.{length-then, length-areas}
 use Rattle.records.specs.Result.{cornersOf, countOf, areaOf as areaIs}
-use Rattle.judgement.specs.Paths.{ResultLoop, loopOf, signedArea, withArea, outerNumber, outerLoop, branchOf, rephasedHole, closedLoops}
-use Rattle.judgement.proofs.Outermost.{outer-below}
+use Rattle.call.specs.Paths.{ResultLoop, loopOf, signedArea, withArea, outerNumber, outerLoop, branchOf, rephasedHole, closedLoops}
+use Rattle.call.proofs.Outermost.{outer-below}
 use Rattle.closed_face.specs.First.{partFirst}
 use Rattle.closed_face.specs.Face.{outerFound, rowsThen, areasLeft, IsFace}
 use Rattle.closed_face.proofs.Loops.{first-between, pieces-again, pieces-fit}

@@ -7,9 +7,9 @@ use lib.ListN.{length, take}
 use Rattle.numbers.specs.declared.math.Vec3.{Vec3}
 use Rattle.lists.specs.Pieces.{pieces}
 use Rattle.tables.specs.Corners.{Corners}
-use Rattle.regions.specs.Loops.{areaIn}
-use Rattle.regions.specs.Region.{outerAmong}
-use Rattle.regions.specs.Holes.{rephasedRows, rephasedAreas}
+use Rattle.closed_region.specs.Loops.{areaIn}
+use Rattle.closed_region.specs.Region.{outerAmong}
+use Rattle.closed_region.specs.Holes.{rephasedRows, rephasedAreas}
 
 -- the loops of a face stand one behind the other in its rows, as many in each as the counts say
 module _ (counts : List ℕ) (rows : Corners Vec3) (areas : List Float) (room : ℕ) where

@@ -21,11 +21,11 @@ use Rattle.records.specs.Refusals.{Verdict, passes, refuses, Condition, NoneHol
 use Rattle.records.specs.Result.{countOf}
 use Rattle.records.proofs.Refused.{verdict-passes}
 use Rattle.records.proofs.Accepted.{accepted-exactly}
-use Rattle.judgement.specs.Demands.{Demand1, BandDemand, WholeDemand}
-use Rattle.judgement.specs.Judge.{allConditions, judge, result}
-use Rattle.judgement.specs.Paths.{resultLoops}
-use Rattle.judgement.specs.Later.{laterConditions}
-use Rattle.judgement.proofs.Demands.{demand-1, demand-3, strip-short}
+use Rattle.call.specs.Demands.{Demand1, BandDemand, WholeDemand}
+use Rattle.call.specs.Judge.{allConditions, judge, result}
+use Rattle.call.specs.Paths.{resultLoops}
+use Rattle.call.specs.Later.{laterConditions}
+use Rattle.call.proofs.Demands.{demand-1, demand-3, strip-short}
 use Rattle.magnitudes.specs.Bounded.{ResultBounded}
 use Rattle.magnitudes.proofs.Still.{whole-demand}
 use Rattle.magnitudes.proofs.Theorem.{result-bounded}

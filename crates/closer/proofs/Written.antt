@@ -24,11 +24,11 @@ use Rattle.results.specs.declared.Path.the-variants.{Closed as Closes, Wrapped,
 use Rattle.results.specs.declared.Written.{Written}
 use Rattle.results.specs.Written.{pathOf, tableResult, allShort, headerHolds, lengthOf, writtenIf, resultFits, WrittenTo}
 use Rattle.results.proofs.Given.{table-loops}
-use Rattle.judgement.specs.Face.{wrapping}
-use Rattle.judgement.specs.Judge.{result}
-use Rattle.judgement.specs.Later.{stripPoints}
-use Rattle.judgement.specs.Paths.{pathIn, resultLoops, resultIn}
-use Rattle.judgement.proofs.Written.{result-fine, result-writable}
+use Rattle.call.specs.Face.{wrapping}
+use Rattle.call.specs.Judge.{result}
+use Rattle.call.specs.Later.{stripPoints}
+use Rattle.call.specs.Paths.{pathIn, resultLoops, resultIn}
+use Rattle.call.proofs.Written.{result-fine, result-writable}
 use Rattle.filling.specs.declared.face.Filled.the-variants.{Face, Refused as Refuses}
 use Rattle.filling.specs.Filled.{HoldsResult, pathTaken, filledBy}
 use Rattle.closer.specs.declared.Answer.{Answer}

@@ -2,8 +2,8 @@
 ghost use mathlib.Core.Path.{_≡_};
 ghost use lib.ListN.{length};
 ghost use Rattle.records.specs.Call.{lentAfter};
-ghost use Rattle.judgement.specs.Demands.{Demand1, BandDemand, WholeDemand};
-ghost use Rattle.judgement.specs.Judge.{judge};
+ghost use Rattle.call.specs.Demands.{Demand1, BandDemand, WholeDemand};
+ghost use Rattle.call.specs.Judge.{judge};
 ghost use Rattle.magnitudes.specs.Bounded.{ResultBounded};
 ghost use Rattle.closer.specs.Returned.{answerOf, codeOf, valueOf, bytesWritten, WrittenBytes};
 use filling::face::Filled;

@@ -6,10 +6,10 @@ ghost use Rattle.lists.specs.Pieces.{pieces};
 ghost use Rattle.lists.specs.Placed.{placed};
 ghost use Rattle.surfaces.specs.Domains.{periodLength};
 ghost use Rattle.tables.specs.Rows.{rows};
-ghost use Rattle.regions.specs.Holes.{rephasedRows, rephasedAreas};
-ghost use Rattle.regions.specs.Loops.{boxIn, boxesIn};
-ghost use Rattle.regions.specs.Outer.{outerOf};
-ghost use Rattle.regions.specs.Region.{outerAmong};
+ghost use Rattle.closed_region.specs.Holes.{rephasedRows, rephasedAreas};
+ghost use Rattle.closed_region.specs.Loops.{boxIn, boxesIn};
+ghost use Rattle.closed_region.specs.Outer.{outerOf};
+ghost use Rattle.closed_region.specs.Region.{outerAmong};
 ghost use Rattle.compared.specs.Surfaces.{periodOf};
 use super::of_surfaces::period_of;
 
@@ -23,14 +23,14 @@ pub extern "C" fn compared_closed_region(
     ensures { λ r. ⌜ r ≡ outerAmong (pieces (now (counts .entry)) (rows (now (t .entry)))) (now (areas .entry)) (length (boxesIn (now (boxes .entry)))) ⌝ }
     ensures { λ _. ⌜ boxesIn (now (boxes .exit)) ≡ placed 0 (map boxIn (pieces (now (counts .entry)) (rows (now (t .entry))))) (boxesIn (now (boxes .entry))) ⌝ }
 {
-    regions::region::closed_region(t, counts, areas, boxes)
+    closed_region::region::closed_region(t, counts, areas, boxes)
 }
 
 #[no_mangle]
 pub extern "C" fn compared_outer_loop(boxes: &[f64], areas: &[f64]) -> usize
     ensures { λ r. ⌜ r ≡ outerOf (boxesIn (now (boxes .entry))) (now (areas .entry)) ⌝ }
 {
-    regions::enclosing::outer_loop(boxes, areas)
+    closed_region::enclosing::outer_loop(boxes, areas)
 }
 
 #[no_mangle]
@@ -47,5 +47,5 @@ pub extern "C" fn compared_rephase_holes(
 {
     let u = period_of(uperiod);
     let v = period_of(vperiod);
-    regions::holes::rephase_holes(t, counts, areas, outer, u, v);
+    closed_region::holes::rephase_holes(t, counts, areas, outer, u, v);
 }

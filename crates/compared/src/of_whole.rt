@@ -3,8 +3,8 @@ ghost use mathlib.Core.Path.{_≡_};
 ghost use lib.ListN.{length};
 ghost use Rattle.lists.specs.Placed.{placed};
 ghost use Rattle.tables.specs.Rows.{rows};
-ghost use Rattle.whole.specs.Boundary.{CountEnds, wholeCorners, areaWithin};
-ghost use Rattle.whole.specs.Table.{wholeRows, RowsReach};
+ghost use Rattle.full_domain.specs.Boundary.{CountEnds, wholeCorners, areaWithin};
+ghost use Rattle.full_domain.specs.Table.{wholeRows, RowsReach};
 ghost use Rattle.compared.specs.Points.{frameOf};
 ghost use Rattle.compared.specs.Surfaces.{surfaceOf, resolvedOf};
 use super::of_numbers::Placement;
@@ -29,7 +29,7 @@ pub extern "C" fn compared_full_domain_count(
         angle,
         min_edge_segments: segments,
     };
-    whole::boundary::full_domain_count(surface_of(kind, a, b), options)
+    full_domain::boundary::full_domain_count(surface_of(kind, a, b), options)
 }
 
 #[no_mangle]
@@ -53,5 +53,5 @@ pub extern "C" fn compared_full_domain_loop(
         angle,
         min_edge_segments: segments,
     };
-    whole::table::full_domain_loop(surface, frame_of(frame), options, t)
+    full_domain::table::full_domain_loop(surface, frame_of(frame), options, t)
 }

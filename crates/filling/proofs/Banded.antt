@@ -35,12 +35,12 @@ use Rattle.records.specs.Limits.{version1}
 use Rattle.records.specs.Refusals.{Verdict, passes, refuses, verdict}
 use Rattle.records.specs.Result.{cornersOf, countOf, areaOf}
 use Rattle.results.specs.declared.Path.the-variants.{Wrapped}
-use Rattle.judgement.specs.Face.{wrapping, settingIn, givenIn}
-use Rattle.judgement.specs.Later.{stripPoints, longStrip}
-use Rattle.judgement.specs.Paths.{ResultLoop, signedArea, loopsFrom, wrappedLoops, resultLoops}
-use Rattle.judgement.proofs.Demands.{loops-of-each}
-use Rattle.judgement.proofs.Loops.{loops-wrap}
-use Rattle.judgement.proofs.Strips.{strip-most}
+use Rattle.call.specs.Face.{wrapping, settingIn, givenIn}
+use Rattle.call.specs.Later.{stripPoints, longStrip}
+use Rattle.call.specs.Paths.{ResultLoop, signedArea, loopsFrom, wrappedLoops, resultLoops}
+use Rattle.call.proofs.Demands.{loops-of-each}
+use Rattle.call.proofs.Loops.{loops-wrap}
+use Rattle.call.proofs.Strips.{strip-most}
 use Rattle.holes.specs.Others.{others}
 use Rattle.holes.proofs.Others.{map-others}
 use Rattle.filling.specs.Band.{bandClosing, BandIs, BandFace}

@@ -6,8 +6,8 @@ use native.Mathlib.Omega.{arith}
 use borrow.Author.Tests.{eq-eqb, ne-eqb}
 use Rattle.records.specs.Face.{loops}
 use Rattle.results.specs.declared.Path.the-variants.{Closed, Wrapped, Whole}
-use Rattle.judgement.specs.Face.{loopsIn, wrapping, uPeriodIn, vPeriodIn}
-use Rattle.judgement.specs.Paths.{wholeLoop, closedLoops, wrappedLoops, resultLoops}
+use Rattle.call.specs.Face.{loopsIn, wrapping, uPeriodIn, vPeriodIn}
+use Rattle.call.specs.Paths.{wholeLoop, closedLoops, wrappedLoops, resultLoops}
 use Rattle.filling.specs.Filled.{pathTaken}
 
 module _ (s : List ℕ) where

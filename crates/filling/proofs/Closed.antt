@@ -18,8 +18,8 @@ use Rattle.surfaces.specs.Domains.{uPeriod, vPeriod, periodLength}
 use Rattle.tables.specs.Corners.{Corners}
 use Rattle.tables.specs.Rows.{rows}
 use Rattle.tables.proofs.Rows.{length-rows}
-use Rattle.regions.specs.Loops.{boxesIn}
-use Rattle.regions.proofs.BoxTable.{length-boxes}
+use Rattle.closed_region.specs.Loops.{boxesIn}
+use Rattle.closed_region.proofs.BoxTable.{length-boxes}
 use Rattle.records.specs.Accepted.{Accepted}
 use Rattle.records.specs.Bytes.{sum}
 use Rattle.records.specs.Face.{loops}
@@ -31,9 +31,9 @@ use Rattle.records.proofs.Columns.{length-counts, length-corners}
 use Rattle.records.specs.Limits.{version1}
 use Rattle.records.specs.Encodable.{version1-encodable}
 use Rattle.results.specs.declared.Path.the-variants.{Closed}
-use Rattle.judgement.specs.Face.{surfaceIn, loopsIn, wrapping}
-use Rattle.judgement.specs.Paths.{ResultLoop, signedArea, closedLoops, resultLoops}
-use Rattle.judgement.proofs.Written.{result-fine}
+use Rattle.call.specs.Face.{surfaceIn, loopsIn, wrapping}
+use Rattle.call.specs.Paths.{ResultLoop, signedArea, closedLoops, resultLoops}
+use Rattle.call.proofs.Written.{result-fine}
 use Rattle.closed_face.specs.First.{partFirst}
 use Rattle.closed_face.specs.Face.{outerFound, rowsThen, areasLeft, IsFace}
 use Rattle.closed_face.proofs.first.Laws.{length-first}

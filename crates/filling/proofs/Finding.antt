@@ -31,7 +31,7 @@ use Rattle.records.specs.Refusals as Sought
 use Rattle.records.proofs.Search.{nowhere≢at}
 use Rattle.records.specs.declared.check.Place.{Place}
 use Rattle.records.specs.declared.check.Place.the-variants.{Nowhere, At}
-use Rattle.judgement.specs.Face.{frameIn, surfaceIn, optionsIn, senseIn, wrapping}
+use Rattle.call.specs.Face.{frameIn, surfaceIn, optionsIn, senseIn, wrapping}
 use Rattle.loop_records.specs.Loops.{recordsFrom}
 use Rattle.measuring.specs.Loops.{wrapsIn}
 use Rattle.measuring.specs.Refusals.{wrapsAt, lastWhere}

@@ -14,7 +14,7 @@ use Rattle.records.specs.Bytes.{sum}
 use Rattle.records.specs.Refusals.{passes}
 use Rattle.records.specs.Result.{Loop, cornersOf, countOf, areaOf}
 use Rattle.results.specs.declared.Path.{Path}
-use Rattle.judgement.specs.Paths.{ResultLoop, resultLoops}
+use Rattle.call.specs.Paths.{ResultLoop, resultLoops}
 use Rattle.filling.specs.declared.face.Filled.the-variants.{Face}
 use Rattle.filling.specs.Filled.{HoldsResult, pathTaken, FillsTo}
 

@@ -18,7 +18,7 @@ use Rattle.loop_records.specs.declared.LoopRecord.{LoopRecord}
 use Rattle.loop_records.specs.Record.{noLoop}
 use Rattle.bands.specs.Given.{falls}
 use Rattle.records.specs.Bytes.{sum}
-use Rattle.judgement.proofs.Sizes.{total}
+use Rattle.call.proofs.Sizes.{total}
 use Rattle.loop_records.specs.Loops.{wrapAlong, signOf, recordOf, recordsFrom}
 use Rattle.loop_records.proofs.Recorded.{length-records}
 

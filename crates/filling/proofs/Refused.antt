@@ -13,8 +13,8 @@ use Rattle.records.specs.Answers.{placeOf}
 use Rattle.records.specs.declared.check.Place.{Place}
 use Rattle.records.specs.declared.check.Place.the-variants.{Nowhere, At}
 use Rattle.records.specs.Refusals.{passes, refuses, refuseAt, verdict}
-use Rattle.judgement.specs.Face.{loopsIn}
-use Rattle.judgement.proofs.Loops.{loops-many}
+use Rattle.call.specs.Face.{loopsIn}
+use Rattle.call.proofs.Loops.{loops-many}
 use Rattle.measuring.specs.Refusals.{openAmong, oneAmong, manyAmong, openKind}
 use Rattle.measuring.specs.Loops.{wrapsIn}
 use Rattle.measuring.proofs.Judged.{open-ring-in, one-ring-in, many-rings-in, open-surface-in}

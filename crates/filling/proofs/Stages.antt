@@ -27,12 +27,12 @@ use Rattle.records.proofs.Accepted.{accepted-exactly}
 use Rattle.records.proofs.Columns.{length-counts}
 use Rattle.records.proofs.Refused.{verdict-passes}
 use Rattle.records.specs.Limits.{version1}
-use Rattle.judgement.specs.Face.{surfaceOf, measuredIn, isWrapping, wrapping, surfaceIn, frameIn, optionsIn, senseIn, loopsIn}
-use Rattle.judgement.specs.Paths.{signedArea}
-use Rattle.judgement.specs.Later.{longStrip}
-use Rattle.judgement.proofs.Demands.{two-wrap}
-use Rattle.judgement.proofs.Loops.{measured-many}
-use Rattle.judgement.proofs.Sizes.{only-few}
+use Rattle.call.specs.Face.{surfaceOf, measuredIn, isWrapping, wrapping, surfaceIn, frameIn, optionsIn, senseIn, loopsIn}
+use Rattle.call.specs.Paths.{signedArea}
+use Rattle.call.specs.Later.{longStrip}
+use Rattle.call.proofs.Demands.{two-wrap}
+use Rattle.call.proofs.Loops.{measured-many}
+use Rattle.call.proofs.Sizes.{only-few}
 use Rattle.measuring.specs.Head.{frameAt, optionsAt}
 use Rattle.loop_records.specs.Loops.{recordsFrom}
 use Rattle.measuring.specs.Loops.{wrapsIn}

@@ -31,9 +31,9 @@ use Rattle.records.specs.Face as Record
 use Rattle.records.specs.Limits.{version1}
 use Rattle.records.proofs.Accepted.{points-sum}
 use Rattle.records.proofs.Columns.{length-counts, length-corners}
-use Rattle.judgement.specs.Face.{surfaceIn, loopsIn, wrapOf, measuredIn, settingIn, givenIn}
-use Rattle.judgement.specs.Later.{loopIn}
-use Rattle.judgement.proofs.Loops.{loops-many, loops-total}
+use Rattle.call.specs.Face.{surfaceIn, loopsIn, wrapOf, measuredIn, settingIn, givenIn}
+use Rattle.call.specs.Later.{loopIn}
+use Rattle.call.proofs.Loops.{loops-many, loops-total}
 use Rattle.loop_records.specs.Loops.{wrapAlong}
 use Rattle.measuring.proofs.Judged.{none, corners-in}
 use Rattle.measuring.proofs.RingsGiven.{first-given, later-given}

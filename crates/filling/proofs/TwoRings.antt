@@ -13,10 +13,10 @@ use Rattle.bands.specs.Given.{Measured, Loop, only, givenOf}
 use Rattle.records.specs.Bytes.{sum}
 use Rattle.records.specs.Refusals.{nowhere, at, firstWhere}
 use Rattle.records.proofs.Search.{Least, nowhere≢at, first-holds, first-fails}
-use Rattle.judgement.specs.Face.{loopsIn, measuredIn, isWrapping, wrapping, givenIn}
-use Rattle.judgement.specs.Later.{loopIn}
-use Rattle.judgement.proofs.Each.{all-getD}
-use Rattle.judgement.proofs.Loops.{measured-some}
+use Rattle.call.specs.Face.{loopsIn, measuredIn, isWrapping, wrapping, givenIn}
+use Rattle.call.specs.Later.{loopIn}
+use Rattle.call.proofs.Each.{all-getD}
+use Rattle.call.proofs.Loops.{measured-some}
 use Rattle.measuring.specs.Refusals.{wrapsAt, lastWhere}
 use Rattle.measuring.specs.Loops.{wrapsIn}
 use Rattle.measuring.proofs.Judged.{none, wraps-in, unmarked, corners-in}

@@ -13,15 +13,15 @@ use Rattle.surfaces.specs.declared.surface.Surface.{Surface}
 use Rattle.tables.specs.Corners.{Corners}
 use Rattle.tables.specs.Rows.{rows}
 use Rattle.tables.proofs.Rows.{length-rows}
-use Rattle.whole.specs.Boundary.{wholeCorners, wholeArea, areaWithin}
-use Rattle.whole.specs.Table.{placedCorner, wholeRows}
-use Rattle.whole.proofs.boundary.Meaning.{few-corners, area-fits}
+use Rattle.full_domain.specs.Boundary.{wholeCorners, wholeArea, areaWithin}
+use Rattle.full_domain.specs.Table.{placedCorner, wholeRows}
+use Rattle.full_domain.proofs.boundary.Meaning.{few-corners, area-fits}
 use Rattle.records.specs.Face.{loops}
 use Rattle.records.specs.Refusals.{passes}
 use Rattle.records.specs.Result.{cornersOf}
 use Rattle.results.specs.declared.Path.the-variants.{Whole}
-use Rattle.judgement.specs.Face.{surfaceIn, frameIn, optionsIn}
-use Rattle.judgement.specs.Paths.{ResultLoop, loopOf, wholeLoop}
+use Rattle.call.specs.Face.{surfaceIn, frameIn, optionsIn}
+use Rattle.call.specs.Paths.{ResultLoop, loopOf, wholeLoop}
 use Rattle.filling.specs.declared.face.Filled.the-variants.{Face}
 use Rattle.filling.specs.Filled.{FillsTo}
 use Rattle.filling.proofs.Chosen.{takes-whole, path-whole}

@@ -28,7 +28,7 @@ use Rattle.records.specs.Accepted.{Accepted}
 use Rattle.records.specs.Face.{counts, cornersIn}
 use Rattle.records.specs.Limits.{version1}
 use Rattle.records.specs.Refusals.{at, firstWhere}
-use Rattle.judgement.specs.Face.{frameIn, surfaceIn, optionsIn, senseIn, wrapping}
+use Rattle.call.specs.Face.{frameIn, surfaceIn, optionsIn, senseIn, wrapping}
 use Rattle.loop_records.specs.Loops.{recordsFrom}
 use Rattle.measuring.specs.Loops.{wrapsIn}
 use Rattle.measuring.specs.Refusals.{wrapsAt, lastWhere}

@@ -14,8 +14,8 @@ use Rattle.records.specs.Refusals.{Verdict, passes, refuses}
 use Rattle.records.specs.Result.{cornersOf, countOf, areaOf}
 use Rattle.results.specs.declared.Path.{Path}
 use Rattle.results.specs.declared.Path.the-variants.{Closed, Wrapped, Whole}
-use Rattle.judgement.specs.Face.{wrapping}
-use Rattle.judgement.specs.Paths.{ResultLoop, resultLoops}
+use Rattle.call.specs.Face.{wrapping}
+use Rattle.call.specs.Paths.{ResultLoop, resultLoops}
 use Rattle.filling.specs.declared.face.Filled.{Filled}
 use Rattle.filling.specs.declared.face.Filled.the-variants.{Face, Refused}
 

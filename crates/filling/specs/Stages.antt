@@ -12,7 +12,7 @@ use Rattle.records.specs.Face as Face
 use Rattle.records.specs.Face.{cornersIn}
 use Rattle.records.specs.Limits.{version1}
 use Rattle.records.specs.Refusals.{Verdict, passes, refuses, Condition, _on_, refuseAt}
-use Rattle.judgement.specs.Later.{openRing, oneRing, manyRings, openSurface, longStrip}
+use Rattle.call.specs.Later.{openRing, oneRing, manyRings, openSurface, longStrip}
 use Rattle.measuring.specs.Refusals.{openAmong, oneAmong, manyAmong, openKind}
 use Rattle.filling.specs.declared.verdict.Verdict.{Verdict as Found}
 use Rattle.filling.specs.declared.verdict.Verdict.the-variants.{Passes, Refuses}

@@ -34,12 +34,12 @@ use Rattle.records.specs.Accepted.{Accepted}
 use Rattle.records.specs.Face.{kind, realOf}
 use Rattle.records.specs.Limits.{plane}
 use Rattle.records.specs.Result.{All, and}
-use Rattle.judgement.specs.Face.{frameIn, surfaceOf, surfaceIn, optionsIn, loopsIn, wrapOf, measuredIn, isWrapping, wrapping, settingIn, givenIn}
-use Rattle.judgement.proofs.Each.{all-first, all-append, all-drop, all-dropLast, all-reverse, all-if, all-map, all-so, all-dropRepeats}
-use Rattle.judgement.proofs.Loops.{loops-fit, given-each}
-use Rattle.judgement.proofs.Rings.{EachGiven, pick-each, holes-each}
-use Rattle.judgement.proofs.Sizes.{only-none}
-use Rattle.judgement.proofs.Strips.{High, steps-few}
+use Rattle.call.specs.Face.{frameIn, surfaceOf, surfaceIn, optionsIn, loopsIn, wrapOf, measuredIn, isWrapping, wrapping, settingIn, givenIn}
+use Rattle.call.proofs.Each.{all-first, all-append, all-drop, all-dropLast, all-reverse, all-if, all-map, all-so, all-dropRepeats}
+use Rattle.call.proofs.Loops.{loops-fit, given-each}
+use Rattle.call.proofs.Rings.{EachGiven, pick-each, holes-each}
+use Rattle.call.proofs.Sizes.{only-none}
+use Rattle.call.proofs.Strips.{High, steps-few}
 use Rattle.magnitudes.specs.Bounded.{mostAngle}
 use Rattle.magnitudes.proofs.Closed.{SizedCorners}
 use Rattle.magnitudes.proofs.Loops.{all-both, Known, rungs-each-within}

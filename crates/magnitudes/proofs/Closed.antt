@@ -14,16 +14,16 @@ use Rattle.numbers.specs.declared.math.Vec3.{Vec3}
 use Rattle.numbers.proofs.Magnitude.{held-small, within-more, pow-more, add-within}
 use Rattle.numbers.proofs.math.Frames.{Billion, in-more}
 use Rattle.loops.specs.Part.{raised}
-use Rattle.regions.specs.Outer.{holesOf}
-use Rattle.regions.specs.Rephase.{shiftOf, moved, rephased}
-use Rattle.regions.specs.Rephase as Rephase
-use Rattle.regions.specs.declared.rephase.Branch.{Branch}
+use Rattle.closed_region.specs.Outer.{holesOf}
+use Rattle.closed_region.specs.Rephase.{shiftOf, moved, rephased}
+use Rattle.closed_region.specs.Rephase as Rephase
+use Rattle.closed_region.specs.declared.rephase.Branch.{Branch}
 use Rattle.tables.specs.Corners.{Corner, Corners, us, vs}
 use Rattle.records.specs.Result.{All, and}
-use Rattle.judgement.specs.Paths.{ResultLoop, signedArea, outerNumber, outerLoop, branchOf, rephasedHole, closedLoops}
-use Rattle.judgement.proofs.Doubles.{FitsCorner}
-use Rattle.judgement.proofs.Each.{all-in, all-append, all-take, all-drop, all-map, all-so}
-use Rattle.judgement.proofs.Outermost.{outer-below}
+use Rattle.call.specs.Paths.{ResultLoop, signedArea, outerNumber, outerLoop, branchOf, rephasedHole, closedLoops}
+use Rattle.call.proofs.Doubles.{FitsCorner}
+use Rattle.call.proofs.Each.{all-in, all-append, all-take, all-drop, all-map, all-so}
+use Rattle.call.proofs.Outermost.{outer-below}
 use Rattle.magnitudes.proofs.Loops.{all-both, Known, middle-known, turned-shift, open-shift, area-within}
 use Rattle.magnitudes.proofs.Record.{Sized, corners-sized}
 

@@ -1,4 +1,4 @@
--- Bounds of what `loops`, `rings` and `regions` work out of a loop's parameters: its least, greatest and middle, shifts by whole turns, and its area.
+-- Bounds of what `loops`, `rings` and `closed_region` work out of a loop's parameters: its least, greatest and middle, shifts by whole turns, and its area.
 use mathlib.Core.Path.{_≡_, sym, ap, _∙_, subst}
 use Prim.Native.Nat.{ℕ, zero, suc, _+_, _*_, _%_, _^_, _≤_, _<_, min, max}
 use native.Mathlib.Nat.{le-trans, le-of-eq, le-add-left, mod-lt, mul-comm, mul-le-mul-right, pow-suc, two-mul}
@@ -27,10 +27,10 @@ use Rattle.loops.specs.Area.{crossAt, crossSum, areaOf}
 use Rattle.loops.specs.Branch.{branchShift, turnUnits, slackUnits, Reached, leftOver}
 use Rattle.loops.specs.Span.{leastOf, greatestOf, middleOf}
 use Rattle.loops.proofs.Landing.{lands, left-half, half-turned, left-turn}
-use Rattle.regions.specs.Rephase.{shiftOf}
+use Rattle.closed_region.specs.Rephase.{shiftOf}
 use Rattle.rings.specs.Choices.{stripShift}
 use Rattle.records.specs.Result.{All, none, and}
-use Rattle.judgement.proofs.Each.{all-in, all-at}
+use Rattle.call.proofs.Each.{all-in, all-at}
 
 -- ---- what holds of each element, twice
 

@@ -33,9 +33,9 @@ use Rattle.records.proofs.Bounds.{within-billion, within-million, within-64, le
 use Rattle.records.proofs.Ranges.{range-head}
 use Rattle.records.proofs.Rows.{all-rowAt}
 use Rattle.magnitudes.specs.Bounded.{mostAngle}
-use Rattle.judgement.specs.Face.{vectorIn, frameIn, surfaceOf, surfaceIn, loopsIn}
-use Rattle.judgement.proofs.Each.{all-map, all-so}
-use Rattle.judgement.proofs.Loops.{all-pieces, length-positions, length-parameters, positions-of}
+use Rattle.call.specs.Face.{vectorIn, frameIn, surfaceOf, surfaceIn, loopsIn}
+use Rattle.call.proofs.Each.{all-map, all-so}
+use Rattle.call.proofs.Loops.{all-pieces, length-positions, length-parameters, positions-of}
 
 abbrev pub Million : ℕ
 Million = 1000000

@@ -32,7 +32,7 @@ use Rattle.bands.specs.Rings.{Face, rising, shifted, laid, seam, onto, onStrip,
 use Rattle.rings.specs.Starts.{lessU, raised, alignCuts, slideToCut}
 use Rattle.bands.proofs.Recut.{at-open-point, recut-is}
 use Rattle.records.specs.Result.{All, none, and}
-use Rattle.judgement.proofs.Each.{all-in, all-append, all-dropLast, all-reverse, all-if, all-map, all-so, all-begun, all-closed, all-recutAt}
+use Rattle.call.proofs.Each.{all-in, all-append, all-dropLast, all-reverse, all-if, all-map, all-so, all-begun, all-closed, all-recutAt}
 use Rattle.magnitudes.proofs.Loops.{Known, known-more, pick-known, min-known, least-known, greatest-known, branch-within, landed-apart, strip-shift-within}
 
 -- ---- loops with corners, whose u are at most B

@@ -14,9 +14,9 @@ use Rattle.numbers.specs.declared.math.Vec3.{Vec3}
 use Rattle.surfaces.specs.declared.surface.Surface.the-variants.{Sphere, Torus}
 use Rattle.surfaces.specs.Domains.{domainOf}
 use Rattle.loops.specs.Steps.{net}
-use Rattle.whole.specs.Boundary.{isWhole, wholeCorners, positionOf, wholePositions, usOf, vsOf, FourCorners}
-use Rattle.whole.proofs.boundary.Corners.{four-corners}
-use Rattle.whole.proofs.boundary.Counts.{whole-still}
+use Rattle.full_domain.specs.Boundary.{isWhole, wholeCorners, positionOf, wholePositions, usOf, vsOf, FourCorners}
+use Rattle.full_domain.proofs.boundary.Corners.{four-corners}
+use Rattle.full_domain.proofs.boundary.Counts.{whole-still}
 use Rattle.tables.specs.Corners.{Corner, positions}
 use Rattle.records.specs.Bytes.{byteAt, _≤?_, _=?_}
 use Rattle.records.specs.Call.{Outcome, refused, closed, code, lentAfter}
@@ -27,12 +27,12 @@ use Rattle.records.specs.Refusals.{nowhere}
 use Rattle.records.specs.Result.{Result, encode, loopPositionsOf, decode, cornersOf, resultOf}
 use Rattle.records.proofs.Closing.{closed-accepted, closed-read}
 use Rattle.records.proofs.Search.{when-fails}
-use Rattle.judgement.specs.Demands.{WholeDemand}
-use Rattle.judgement.specs.Face.{frameIn, surfaceOf, surfaceIn, optionsIn, wrapping}
-use Rattle.judgement.specs.Judge.{judge}
-use Rattle.judgement.specs.Later.{laterConditions, openSurface}
-use Rattle.judgement.specs.Paths.{ResultLoop, uvOf, wholeLoop, pathIn, resultLoops, resultIn}
-use Rattle.judgement.proofs.Demands.{passed, can-be-written, read-loops, written, over-zero}
+use Rattle.call.specs.Demands.{WholeDemand}
+use Rattle.call.specs.Face.{frameIn, surfaceOf, surfaceIn, optionsIn, wrapping}
+use Rattle.call.specs.Judge.{judge}
+use Rattle.call.specs.Later.{laterConditions, openSurface}
+use Rattle.call.specs.Paths.{ResultLoop, uvOf, wholeLoop, pathIn, resultLoops, resultIn}
+use Rattle.call.proofs.Demands.{passed, can-be-written, read-loops, written, over-zero}
 use Rattle.magnitudes.proofs.Record.{frame-framed, sizes-in}
 
 -- ---- the path byte

@@ -35,16 +35,16 @@ use Rattle.records.specs.Refusals.{conditions, NoneHolds}
 use Rattle.records.specs.Result.{Result, All, none, and, decode, cornersOf, resultOf}
 use Rattle.records.specs.Result as Result
 use Rattle.records.proofs.Closing.{closed-accepted, closed-read}
-use Rattle.judgement.specs.Face.{surfaceOf, surfaceIn, uPeriodIn, vPeriodIn, loopsIn, measuredIn, isWrapping, wrapping, settingIn, givenIn}
-use Rattle.judgement.specs.Judge.{result, judge}
-use Rattle.judgement.specs.Later.{laterConditions, stripPoints}
-use Rattle.judgement.specs.Paths.{ResultLoop, signedArea, loopsFrom, wrappedLoops, closedLoops, wholeLoop, uvOf, xyzOf, pathIn, resultLoops, resultIn}
-use Rattle.judgement.proofs.Demands.{two-wrap, strip-short, rings-whole, passed, can-be-written, over-zero}
-use Rattle.judgement.proofs.Doubles.{FitsCorner}
-use Rattle.judgement.proofs.Each.{all-append, all-only, all-map, all-so}
-use Rattle.judgement.proofs.Loops.{loops-many, loops-total, loops-fit, given-each}
-use Rattle.judgement.proofs.Sizes.{total, each-short}
-use Rattle.judgement.proofs.Strips.{High, lower-low, upper-high}
+use Rattle.call.specs.Face.{surfaceOf, surfaceIn, uPeriodIn, vPeriodIn, loopsIn, measuredIn, isWrapping, wrapping, settingIn, givenIn}
+use Rattle.call.specs.Judge.{result, judge}
+use Rattle.call.specs.Later.{laterConditions, stripPoints}
+use Rattle.call.specs.Paths.{ResultLoop, signedArea, loopsFrom, wrappedLoops, closedLoops, wholeLoop, uvOf, xyzOf, pathIn, resultLoops, resultIn}
+use Rattle.call.proofs.Demands.{two-wrap, strip-short, rings-whole, passed, can-be-written, over-zero}
+use Rattle.call.proofs.Doubles.{FitsCorner}
+use Rattle.call.proofs.Each.{all-append, all-only, all-map, all-so}
+use Rattle.call.proofs.Loops.{loops-many, loops-total, loops-fit, given-each}
+use Rattle.call.proofs.Sizes.{total, each-short}
+use Rattle.call.proofs.Strips.{High, lower-low, upper-high}
 use Rattle.magnitudes.specs.Bounded.{EachReal, Bounded, mostAngle, mostPlaneU, mostHeight, mostU, mostV, mostCoordinate, ResultBounded}
 use Rattle.magnitudes.proofs.Bands.{curved, outer-sized, holes-sized}
 use Rattle.magnitudes.proofs.Closed.{SizedCorners, SizedLoop, GivenLoop, Way, area-sized, area-given, closed-sized}

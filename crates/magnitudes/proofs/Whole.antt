@@ -22,13 +22,13 @@ use Rattle.surfaces.specs.declared.surface.Surface.the-variants.{Plane, Cylinde
 use Rattle.surfaces.specs.Domains.{fullTurn, domainOf}
 use Rattle.surfaces.specs.Rungs.{rungs}
 use Rattle.surfaces.proofs.surface.Points.{Sizes, point-in}
-use Rattle.whole.specs.Boundary.{clamped, stepsOf, rungsOf, sides, sidesOf, wholeCorners, wrapOf, positionOf, usOf, vsOf, wholeArea}
-use Rattle.whole.proofs.boundary.Meaning.{few-corners}
+use Rattle.full_domain.specs.Boundary.{clamped, stepsOf, rungsOf, sides, sidesOf, wholeCorners, wrapOf, positionOf, usOf, vsOf, wholeArea}
+use Rattle.full_domain.proofs.boundary.Meaning.{few-corners}
 use Rattle.tables.specs.Corners.{Corner}
 use Rattle.records.specs.Result.{All, none}
-use Rattle.judgement.specs.Face.{frameIn, surfaceIn, optionsIn}
-use Rattle.judgement.specs.Paths.{wholeLoop}
-use Rattle.judgement.proofs.Each.{all-append, all-drop, all-dropLast, all-reverse, all-map}
+use Rattle.call.specs.Face.{frameIn, surfaceIn, optionsIn}
+use Rattle.call.specs.Paths.{wholeLoop}
+use Rattle.call.proofs.Each.{all-append, all-drop, all-dropLast, all-reverse, all-map}
 use Rattle.magnitudes.proofs.Closed.{SizedCorners, SizedLoop}
 use Rattle.magnitudes.proofs.Loops.{rungs-each-within, area-within}
 use Rattle.magnitudes.proofs.Record.{Sized}

@@ -14,7 +14,7 @@ use Rattle.surfaces.specs.declared.surface.Surface.the-variants.{Plane, Cylinde
 use Rattle.records.specs.Bytes.{realAt}
 use Rattle.records.specs.Face.{headReals, kind, segments, head, realPlace, realOf}
 use Rattle.records.proofs.Rows.{getD-rowAt}
-use Rattle.judgement.specs.Face.{surfaceOf, frameIn, surfaceIn, optionsIn}
+use Rattle.call.specs.Face.{surfaceOf, frameIn, surfaceIn, optionsIn}
 use Rattle.measuring.specs.Head.{vectorAt, frameAt, optionsAt}
 
 -- ---- the kinds

@@ -13,9 +13,9 @@ use Rattle.bands.specs.Given.{Measured, wraps, only}
 use Rattle.records.specs.Bytes.{_=?_, _<?_}
 use Rattle.records.specs.Face.{kind, loops}
 use Rattle.records.specs.Refusals.{nowhere, when, firstWhere}
-use Rattle.judgement.specs.Face.{loopsIn, measuredIn, isWrapping, wrapping}
-use Rattle.judgement.specs.Later.{loopIn, openRing, oneRing, manyRings, openSurface}
-use Rattle.judgement.proofs.Loops.{loops-many, measured-many}
+use Rattle.call.specs.Face.{loopsIn, measuredIn, isWrapping, wrapping}
+use Rattle.call.specs.Later.{loopIn, openRing, oneRing, manyRings, openSurface}
+use Rattle.call.proofs.Loops.{loops-many, measured-many}
 use Rattle.measuring.specs.Refusals.{wrapsAt, openAt, openAmong, wrappingOf, oneAmong, manyAmong, openKind}
 use Rattle.measuring.specs.Loops.{wrapsIn}
 

@@ -14,8 +14,8 @@ use Rattle.lists.specs.Placed.{placed}
 use Rattle.lists.proofs.Placed.{front-placed}
 use Rattle.tables.specs.Corners.{Corners, us}
 use Rattle.loop_records.specs.declared.LoopRecord.{LoopRecord}
-use Rattle.judgement.specs.Face.{surfaceIn, loopsIn, wrapOf, measuredIn}
-use Rattle.judgement.specs.Paths.{signedArea}
+use Rattle.call.specs.Face.{surfaceIn, loopsIn, wrapOf, measuredIn}
+use Rattle.call.specs.Paths.{signedArea}
 use Rattle.loop_records.specs.Loops.{wrapAlong, recordOf, recordsFrom}
 use Rattle.loop_records.proofs.Recorded.{length-records, wraps-recorded}
 use Rattle.measuring.specs.Loops.{wrapsIn}

@@ -12,8 +12,8 @@ use Rattle.lists.proofs.Elements.{getD-reverse}
 use Rattle.bands.specs.Given.{Measured, only, loopOf, givenOf}
 use Rattle.records.specs.Refusals.{at, firstWhere}
 use Rattle.records.proofs.Search.{nowhere≢at, first-holds}
-use Rattle.judgement.specs.Face.{measuredIn, isWrapping, wrapping, givenIn}
-use Rattle.judgement.specs.Later.{loopIn}
+use Rattle.call.specs.Face.{measuredIn, isWrapping, wrapping, givenIn}
+use Rattle.call.specs.Later.{loopIn}
 use Rattle.measuring.specs.Refusals.{wrapsAt, lastWhere}
 use Rattle.measuring.specs.Loops.{wrapsIn}
 use Rattle.measuring.proofs.Judged.{none, wraps-in}

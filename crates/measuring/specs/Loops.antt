@@ -4,7 +4,7 @@ use mathlib.Core.List.{List, map}
 use lib.IntN.{ℤ}
 use Rattle.numbers.specs.declared.math.Vec3.{Vec3}
 use Rattle.bands.specs.Given.{Measured}
-use Rattle.judgement.specs.Face.{measuredIn}
+use Rattle.call.specs.Face.{measuredIn}
 
 -- the wraps, one for each loop, in file order
 abbrev pub wrapsIn : List ℕ → List ℤ

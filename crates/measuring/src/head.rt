@@ -3,7 +3,7 @@
 ghost use mathlib.Core.Path.{_≡_};
 ghost use Prim.Native.Nat.{_≤_};
 ghost use Rattle.records.specs.Face.{headReals};
-ghost use Rattle.judgement.specs.Face.{surfaceOf};
+ghost use Rattle.call.specs.Face.{surfaceOf};
 ghost use Rattle.measuring.specs.Head.{vectorAt, frameAt, optionsAt};
 use numbers::math::Frame;
 use numbers::math::Vec3;

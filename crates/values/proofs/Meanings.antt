@@ -5,7 +5,7 @@ use Rattle.numbers.proofs.trig.Exact.{exact-multiples}
 use Rattle.numbers.proofs.Units.{units-exact, units-order, units-sum}
 use Rattle.numbers.proofs.Errors.{round-error, add-error}
 use Rattle.surfaces.proofs.knots.Rising.{stretch-of, sort-changes-nothing}
-use Rattle.whole.proofs.boundary.Rising.{whole-rise}
+use Rattle.full_domain.proofs.boundary.Rising.{whole-rise}
 use Rattle.bands.proofs.Clear.{clear-rings}
 use Rattle.bands.proofs.Walls.{band-kept}
 use Rattle.values.specs.Meanings.{Meanings}

@@ -1,5 +1,5 @@
 -- Bands from bytes to bytes, computed by the prover: walls that have inner rungs, a bore across the seam, and the rings of a torus exchanged and lifted. They are
--- no part of the values of `judgement` because each edit of that crate has them all computed again.
+-- no part of the values of `call` because each edit of that crate has them all computed again.
 use Prim.Native.Nat.{ℕ}
 use mathlib.Core.Path.{_≡_, refl}
 use mathlib.Core.List.{List, [], _∷_, _++_}
@@ -46,12 +46,12 @@ use Rattle.records.specs.Limits.{0·0, 1·5, holds, headRange, radius, second, 
 use Rattle.records.specs.Refusals.{verdict, firstFrom, tooFewLent, wrongByte, wrongHeader, tooManyLoops, endsInCounts, tooFewPoints, tooManyPoints, wrongLength, badReal, firstBadReal}
 use Rattle.records.specs.Result.{encode, decode, countsIn, cornersIn as cornersBack, loopPositionsOf, resultOf, cornersOf as together}
 use Rattle.tables.specs.Corners.{cornersFrom}
-use Rattle.judgement.specs.Face.{frameIn, surfaceOf, surfaceIn, optionsIn, senseIn, loopsIn, measuredIn, wrapping, settingIn, givenIn}
-use Rattle.judgement.specs.Later.{loopIn, openRing, oneRing, manyRings, openSurface, stripPoints, longStrip}
-use Rattle.judgement.specs.Paths.{loopsFrom, wrappedLoops, pathIn, resultLoops, resultIn}
-use Rattle.judgement.specs.Judge.{judge}
-use Rattle.judgement.specs.Demands.{outerPositions}
-use Rattle.judgement.specs.Values.{head, -1·0, band, risingUv, risingXyz, fallingUv, fallingXyz, shortUv, shortXyz, holeXyz}
+use Rattle.call.specs.Face.{frameIn, surfaceOf, surfaceIn, optionsIn, senseIn, loopsIn, measuredIn, wrapping, settingIn, givenIn}
+use Rattle.call.specs.Later.{loopIn, openRing, oneRing, manyRings, openSurface, stripPoints, longStrip}
+use Rattle.call.specs.Paths.{loopsFrom, wrappedLoops, pathIn, resultLoops, resultIn}
+use Rattle.call.specs.Judge.{judge}
+use Rattle.call.specs.Demands.{outerPositions}
+use Rattle.call.specs.Values.{head, -1·0, band, risingUv, risingXyz, fallingUv, fallingXyz, shortUv, shortXyz, holeXyz}
 
 -- ---- a cylinder between v 0 and v 1 with at least three segments: two inner rungs, and a wall point (1, 0, v) at each
 
@@ -71,7 +71,7 @@ walledWritten =
     ++ row real (TAU ∷ risingUv 0·0 ++ (TAU ∷ ⅓ ∷ TAU ∷ ⅔ ∷ fallingUv one ++ (0·0 ∷ ⅔ ∷ 0·0 ∷ ⅓ ∷
     risingXyz 0·0 ++ (one ∷ 0·0 ∷ ⅓ ∷ one ∷ 0·0 ∷ ⅔ ∷ fallingXyz one ++ (one ∷ 0·0 ∷ ⅔ ∷ one ∷ 0·0 ∷ ⅓ ∷ [])))))
 
--- ---- 02, N4: a cross-drilled bush, the band of `judgement` with a bore across the place where both rings begin
+-- ---- 02, N4: a cross-drilled bush, the band of `call` with a bore across the place where both rings begin
 
 -- The bore is from u -1 to 1. Brought onto the strip it is from 5.28 to 7.28, so that `reseam` finds the gap from 0 to 5.28 and cuts at 2.64: the first open points
 -- past that are those at PI.

@@ -1,4 +1,4 @@
--- What is stated of the definitions of `numbers`, `surfaces`, `whole` and `bands` beyond the values that document 01 stars: listed here so that a proof of it cannot be deleted alone.
+-- What is stated of the definitions of `numbers`, `surfaces`, `full_domain` and `bands` beyond the values that document 01 stars: listed here so that a proof of it cannot be deleted alone.
 use Prim.Native.Nat.{ℕ, _^_, _≤_}
 use mathlib.Core.Path.{_≡_}
 use mathlib.Core.Bool.{Bool, true, false}
@@ -16,7 +16,7 @@ use Rattle.surfaces.specs.Sorting.{sorted, rising}
 use Rattle.surfaces.specs.declared.options.Resolved.{Resolved}
 use Rattle.surfaces.specs.declared.steps.Axis.{Axis}
 use Rattle.surfaces.specs.declared.surface.Surface.{Surface}
-use Rattle.whole.specs.Boundary.{isWhole, rungsOf}
+use Rattle.full_domain.specs.Boundary.{isWhole, rungsOf}
 use Rattle.bands.specs.Band.{outer}
 use Rattle.bands.specs.Columns.{settingOf, settingWith}
 use Rattle.bands.specs.Given.{Given}

@@ -16,9 +16,9 @@ use Rattle.loops.specs.Wrap.{netWrap, turnsCounted}
 use Rattle.loops.specs.Rings.{begun, closed}
 use Rattle.surfaces.specs.Rungs.{rungs}
 use Rattle.surfaces.specs.Values.{three, halves, no-width}
-use Rattle.regions.specs.Table.{boxesOf}
-use Rattle.regions.specs.Outer.{outerOf}
-use Rattle.regions.specs.Values.{squareU, squareV, equal-squares}
+use Rattle.closed_region.specs.Table.{boxesOf}
+use Rattle.closed_region.specs.Outer.{outerOf}
+use Rattle.closed_region.specs.Values.{squareU, squareV, equal-squares}
 use Rattle.rings.specs.Choices.{nearest, firstLeast}
 use Rattle.rings.specs.Turns.{turnedOnto, alignAt}
 use Rattle.tables.specs.Corners.{Corner}

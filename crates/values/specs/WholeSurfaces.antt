@@ -1,4 +1,4 @@
--- 02, N2, computed: the torus of 11 by 11 steps and the sphere of 22 by 11 (`whole`, Values.antt), a pair of positions of each, now, and one before that request.
+-- 02, N2, computed: the torus of 11 by 11 steps and the sphere of 22 by 11 (`full_domain`, Values.antt), a pair of positions of each, now, and one before that request.
 use mathlib.Core.Path.{_≡_, refl}
 use mathlib.Core.List.{map}
 use lib.IntN.{pos}
@@ -18,8 +18,8 @@ use Rattle.surfaces.specs.Rungs.{division, divisionsFrom, slackOf, near, keptAf
 use Rattle.surfaces.specs.Segments.{sagAngle, angleStepOf, segmentsOf}
 use Rattle.surfaces.specs.Steps.{directionStepsOf}
 use Rattle.loops.specs.Steps.{net, netOf, count as counted, stepsRound, stepsAlong}
-use Rattle.whole.specs.Boundary.{corner, sides, sidesOf, stepsOf, rungsOf, wholeCorners, wrapOf, positionOf, wholePositions}
-use Rattle.whole.specs.Values.{torus, finer, ball, finest}
+use Rattle.full_domain.specs.Boundary.{corner, sides, sidesOf, stepsOf, rungsOf, wholeCorners, wrapOf, positionOf, wholePositions}
+use Rattle.full_domain.specs.Values.{torus, finer, ball, finest}
 
 abbrev upright : Frame
 upright = record {

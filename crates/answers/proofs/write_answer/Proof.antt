@@ -1,6 +1,6 @@
 use lib.ListN.{length}
 use borrow.Author.Needs.{needs}
-use Rattle.judgement.specs.Judge.{judge}
+use Rattle.call.specs.Judge.{judge}
 use Rattle.answers.proofs.Front.{found-in, closed-written, refused-written}
 use Rattle.answers.proofs.Small.{four-bytes-hold}
 use Rattle.answers.proofs.write_answer.Statement.{statement}

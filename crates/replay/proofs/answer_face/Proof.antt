@@ -1,7 +1,7 @@
 use mathlib.Core.Path.{sym}
 use lib.ListN.{length}
 use lib.Seq.{length-take-le}
-use Rattle.judgement.specs.Judge.{judge}
+use Rattle.call.specs.Judge.{judge}
 use Rattle.answers.proofs.Front.{wrote-within, closed-fits}
 use borrow.Author.Needs.{needs}
 use Rattle.replay.proofs.answer_face.Statement.{statement}

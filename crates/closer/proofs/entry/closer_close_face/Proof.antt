@@ -1,6 +1,6 @@
 use denote.Ref.{now}
 use lib.ListN.{length}
-use Rattle.judgement.specs.Judge.{judge}
+use Rattle.call.specs.Judge.{judge}
 use Rattle.closer.proofs.Call.{paired}
 use borrow.Author.Needs.{needs}
 use Rattle.closer.proofs.entry.closer_close_face.Statement.{statement}

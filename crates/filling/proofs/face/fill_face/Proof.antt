@@ -1,6 +1,6 @@
 use Rattle.records.specs.Limits.{version1}
 use Rattle.records.specs.Refusals.{recordConditions}
-use Rattle.judgement.specs.Later.{laterConditions}
+use Rattle.call.specs.Later.{laterConditions}
 use Rattle.filling.proofs.Stages.{refused-as, filled-as, accepted-as}
 use borrow.Author.Needs.{needs}
 use Rattle.filling.proofs.face.fill_face.Statement.{statement}
