@@ -20,7 +20,6 @@ use Rattle.surfaces.specs.declared.surface.Surface.the-variants.{Plane, Cylinde
 use Rattle.surfaces.specs.Domains.{between, fullTurn, domainOf}
 use Rattle.surfaces.specs.Rungs.{inner}
 use Rattle.loops.specs.Area.{areaOf}
-use Rattle.loops.specs.Part.{raised}
 use Rattle.loops.proofs.Trailing.{repeats-fewer}
 use Rattle.closed_region.specs.Outer.{holesOf}
 use Rattle.closed_region.specs.Rephase.{shiftOf, moved, rephased}
@@ -30,6 +29,8 @@ use Rattle.full_domain.specs.Boundary.{sides, sidesOf, rungsOf, wholeCorners, p
 use Rattle.full_domain.proofs.boundary.Meaning.{few-corners}
 use Rattle.bands.specs.Band.{stripOf, outer, holes}
 use Rattle.tables.specs.Corners.{Corner, Corners, us, vs, positions}
+use Rattle.tables.specs.Moves.{movedBy}
+use Rattle.tables.specs.declared.moves.Move.the-variants.{Up}
 use Rattle.bands.proofs.Demand.{holes-counts, holes-as-many}
 use Rattle.records.specs.Bytes.{sum, _=?_}
 use Rattle.records.specs.Face.{loops, points}
@@ -87,8 +88,8 @@ module _ (b : Branch) where
   moved-fits : (su sv : Float) (l : Rephase.Loop) → FitsParts l → FitsParts (moved su sv l)
   unfolding moved
   moved-fits su sv l h = record {
-    us = all-map (raised su) (λ u f. add-fits binary64 u su) (h .us);
-    vs = all-map (raised sv) (λ v f. add-fits binary64 v sv) (h .vs);
+    us = all-map (movedBy (Up su)) (λ u f. add-fits binary64 u su) (h .us);
+    vs = all-map (movedBy (Up sv)) (λ v f. add-fits binary64 v sv) (h .vs);
     area = area-fits _ _;
   }
 

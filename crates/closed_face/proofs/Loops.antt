@@ -12,7 +12,7 @@ use Rattle.numbers.specs.declared.math.Vec3.{Vec3}
 use Rattle.lists.specs.Pieces.{pieces}
 use Rattle.lists.specs.Placed.{placed}
 use Rattle.lists.proofs.Pieces.{Cutting, cutting, cutting-turn, cutting-piece, length-pieces}
-use Rattle.loops.specs.Part.{partOf}
+use Rattle.lists.specs.Parts.{partOf}
 use Rattle.tables.specs.Corners.{Corners}
 use Rattle.tables.specs.Rows.{rows}
 use Rattle.tables.proofs.PartRows.{rows-placed}

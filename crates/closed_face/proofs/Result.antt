@@ -16,8 +16,10 @@ use Rattle.lists.specs.Placed.{placed}
 use Rattle.lists.proofs.Pieces.{length-pieces}
 use Rattle.lists.proofs.Placed.{placed-fits, front-placed}
 use Rattle.loops.specs.Area.{areaOf}
-use Rattle.loops.specs.Part.{partOf, raised}
+use Rattle.lists.specs.Parts.{partOf}
 use Rattle.tables.specs.Corners.{Corners, us, vs, positions, cornersFrom}
+use Rattle.tables.specs.Moves.{movedBy}
+use Rattle.tables.specs.declared.moves.Move.the-variants.{Up}
 use Rattle.closed_region.specs.Loops.{areaIn, boxIn}
 use Rattle.closed_region.specs.Outer.{outerOf, holesOf}
 use Rattle.closed_region.specs.Region.{outerAmong}
@@ -71,18 +73,18 @@ corners-again [] = refl
 corners-again (c ∷ r) = ap (λ (l : Corners Vec3). c ∷ l) (corners-again r)
 
 module _ (su sv : Float) where
-  corners-shifted : (r : Corners Vec3) → cornersFrom (map (raised su) (us r)) (map (raised sv) (vs r)) (positions r) ≡ shifted su sv r
+  corners-shifted : (r : Corners Vec3) → cornersFrom (map (movedBy (Up su)) (us r)) (map (movedBy (Up sv)) (vs r)) (positions r) ≡ shifted su sv r
   unfolding cornersFrom
   corners-shifted [] = refl
-  corners-shifted (c ∷ r) = ap (λ (l : Corners Vec3). record { u = raised su (c .u); v = raised sv (c .v); at = c .at } ∷ l) (corners-shifted r)
+  corners-shifted (c ∷ r) = ap (λ (l : Corners Vec3). record { u = movedBy (Up su) (c .u); v = movedBy (Up sv) (c .v); at = c .at } ∷ l) (corners-shifted r)
 
-  us-shifted : (r : Corners Vec3) → map (raised su) (us r) ≡ us (shifted su sv r)
+  us-shifted : (r : Corners Vec3) → map (movedBy (Up su)) (us r) ≡ us (shifted su sv r)
   us-shifted [] = refl
-  us-shifted (c ∷ r) = ap (λ (l : List Float). raised su (c .u) ∷ l) (us-shifted r)
+  us-shifted (c ∷ r) = ap (λ (l : List Float). movedBy (Up su) (c .u) ∷ l) (us-shifted r)
 
-  vs-shifted : (r : Corners Vec3) → map (raised sv) (vs r) ≡ vs (shifted su sv r)
+  vs-shifted : (r : Corners Vec3) → map (movedBy (Up sv)) (vs r) ≡ vs (shifted su sv r)
   vs-shifted [] = refl
-  vs-shifted (c ∷ r) = ap (λ (l : List Float). raised sv (c .v) ∷ l) (vs-shifted r)
+  vs-shifted (c ∷ r) = ap (λ (l : List Float). movedBy (Up sv) (c .v) ∷ l) (vs-shifted r)
 
 module _ (b : Branch) (r : Corners Vec3) where
   hole-is : rephasedHole b r ≡ loopOf (rephasedArea b r (signedArea r)) (rephasedCorners b r)
@@ -99,7 +101,7 @@ module _ (b : Branch) (r : Corners Vec3) where
       own = record { us = us r; vs = vs r; area = signedArea r }
 
       then : Bool → Loop
-      then t = cond t own (record { us = map (raised su) (us r); vs = map (raised sv) (vs r); area = areaOf (map (raised su) (us r)) (map (raised sv) (vs r)) })
+      then t = cond t own (record { us = map (movedBy (Up su)) (us r); vs = map (movedBy (Up sv)) (vs r); area = areaOf (map (movedBy (Up su)) (us r)) (map (movedBy (Up sv)) (vs r)) })
 
       by-phase : (t : Bool) → loopOf (then t .area) (cornersFrom (then t .us) (then t .vs) (positions r)) ≡ loopOf (cond t (signedArea r) (areaIn (shifted su sv r))) (cond t r (shifted su sv r))
       by-phase true = ap (loopOf (signedArea r)) (corners-again r)

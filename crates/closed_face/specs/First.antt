@@ -4,7 +4,7 @@ use mathlib.Core.Bool.{cond}
 use mathlib.Core.List.{List, _++_}
 use lib.Dec.{leb}
 use lib.ListN.{take, drop}
-use Rattle.loops.specs.Part.{partOf}
+use Rattle.lists.specs.Parts.{partOf}
 
 -- a part of a list moved to the front, with the rest in its order
 unfoldable pub partFirst : {A : Type 0} → ℕ → ℕ → List A → List A

@@ -16,12 +16,12 @@ use super::first::count_first;
 use super::first::part_first;
 use closed_region::holes::rephase_holes;
 use closed_region::region::closed_region;
-use loops::part::part;
-use slices::piece_end;
-use slices::shorter;
 use surfaces::surface::Period;
 use tables::corners::count;
 use tables::pieces::loop_of;
+use tables::slices::part;
+use tables::slices::piece_end;
+use tables::slices::shorter;
 
 // How many rows the first k loops have: where loop k begins.
 fn begin_of(t: &[f64], counts: &[usize], k: usize) -> usize

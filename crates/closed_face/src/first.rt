@@ -5,8 +5,8 @@ ghost use lib.Dec.{ltb};
 ghost use lib.ListN.{length};
 ghost use Rattle.lists.specs.Placed.{placed};
 ghost use Rattle.closed_face.specs.First.{partFirst, placeAt};
-use loops::part::part;
-use slices::copy_into;
+use tables::slices::copy_into;
+use tables::slices::part;
 
 // Of one column: the corners of one loop before those of all others.
 pub fn part_first(src: &[f64], start: usize, count: usize, dst: &mut [f64])

@@ -22,7 +22,6 @@ use Rattle.lists.proofs.Parts.{on-part}
 use Rattle.lists.proofs.Pieces.{Cutting, cutting, cutting-turn, cutting-piece, length-pieces}
 use Rattle.lists.proofs.Placed.{placed-fits}
 use Rattle.loops.specs.Branch.{LeavesHalf}
-use Rattle.loops.specs.Part.{raised}
 use Rattle.loops.specs.Span.{middleOf}
 use Rattle.loops.proofs.Landing.{half-answer}
 use Rattle.tables.specs.Corners.{Corners, us, vs, moveU, moveV}
@@ -64,7 +63,7 @@ branch-is b r up vp pu pv e p q = let m = middles b r e in λ i. record { umid =
 pub moved-hole : (r r₁ r₂ : Corners Vec3) (su sv x : Float) → r₁ ≡ map (moveU (movedBy (Up su))) r → r₂ ≡ map (moveV (movedBy (Up sv))) r₁ → x ≡ areaIn r₂
     → (x ≡ areaIn (shifted su sv r)) × (r₂ ≡ shifted su sv r)
 moved-hole r r₁ r₂ su sv x p q e =
-    let is : r₂ ≡ shifted su sv r = q ∙ ap (map (moveV (raised sv))) p in
+    let is : r₂ ≡ shifted su sv r = q ∙ ap (map (moveV (movedBy (Up sv)))) p in
     (e ∙ ap areaIn is, is)
 
 module _ (b : Branch) (r : Corners Vec3) (own : Bounds) (su sv : Float) (t : Bool) (area : Float) (own-is : own ≡ boxIn r) (su-is : su ≡ wholePeriods (b .uperiod) ((own .ulo ⊕ own .uhi) ⊗ half) (b .umid)) (sv-is : sv ≡ wholePeriods (b .vperiod) ((own .vlo ⊕ own .vhi) ⊗ half) (b .vmid)) (t-is : t ≡ eq su plusZero && eq sv plusZero) where
@@ -133,7 +132,7 @@ module _ (b : Branch) where
     where
       by-phase : (t : Bool) → length (cond t r (shifted (uShift b r) (vShift b r) r)) ≡ length r
       by-phase true = refl
-      by-phase false = length-map (map (moveU (raised (uShift b r))) r) (moveV (raised (vShift b r))) ∙ length-map r (moveU (raised (uShift b r)))
+      by-phase false = length-map (map (moveU (movedBy (Up (uShift b r)))) r) (moveV (movedBy (Up (vShift b r)))) ∙ length-map r (moveU (movedBy (Up (uShift b r))))
 
 module _ (outer : ℕ) (b : Branch) where
   pub length-then : (k : ℕ) (r : Corners Vec3) → length (loopThen outer b k r) ≡ length r

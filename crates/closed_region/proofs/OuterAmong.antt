@@ -11,7 +11,7 @@ use Rattle.lists.specs.Pieces.{pieces}
 use Rattle.lists.specs.Placed.{placed}
 use Rattle.lists.proofs.Pieces.{length-pieces}
 use Rattle.lists.proofs.Placed.{length-placed, front-placed}
-use Rattle.loops.specs.Part.{partOf}
+use Rattle.lists.specs.Parts.{partOf}
 use Rattle.tables.specs.Corners.{Corners}
 use Rattle.closed_region.specs.Loops.{boxIn, boxesIn}
 use Rattle.closed_region.specs.Outer.{outerOf, lastLargest}

@@ -10,9 +10,10 @@ use Rattle.numbers.specs.Round.{roundAway}
 use Rattle.numbers.specs.Rounded.{_⊖_, _⊗_, _⊘_}
 use Rattle.numbers.specs.declared.math.Vec3.{Vec3}
 use Rattle.lists.specs.Placed.{placed}
-use Rattle.loops.specs.Part.{raised}
 use Rattle.loops.specs.Span.{middleOf}
 use Rattle.tables.specs.Corners.{Corners, us, vs, moveU, moveV}
+use Rattle.tables.specs.Moves.{movedBy}
+use Rattle.tables.specs.declared.moves.Move.the-variants.{Up}
 use Rattle.closed_region.specs.Loops.{areaIn}
 use Rattle.closed_region.specs.declared.rephase.Branch.{Branch}
 
@@ -27,7 +28,7 @@ branchIn uperiod vperiod r = record { umid = middleOf (us r); vmid = middleOf (v
 
 -- moved by su and sv; positions stay
 abbrev pub shifted : Float → Float → Corners Vec3 → Corners Vec3
-shifted su sv r = map (moveV (raised sv)) (map (moveU (raised su)) r)
+shifted su sv r = map (moveV (movedBy (Up sv))) (map (moveU (movedBy (Up su))) r)
 
 abbrev pub uShift : Branch → Corners Vec3 → Float
 uShift b r = wholePeriods (b .uperiod) (middleOf (us r)) (b .umid)

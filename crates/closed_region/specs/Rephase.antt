@@ -5,8 +5,9 @@ use lib.Ieee.{Float, lt, eq}
 use Rattle.numbers.specs.Constants.{plusZero}
 use Rattle.numbers.specs.Round.{roundAway}
 use Rattle.numbers.specs.Rounded.{_⊖_, _⊗_, _⊘_}
+use Rattle.tables.specs.Moves.{movedBy}
+use Rattle.tables.specs.declared.moves.Move.the-variants.{Up}
 use Rattle.loops.specs.Area.{areaOf}
-use Rattle.loops.specs.Part.{raised}
 use Rattle.loops.specs.Span.{middleOf}
 use Rattle.closed_region.specs.declared.rephase.Branch.{Branch}
 
@@ -23,8 +24,8 @@ pub record Loop : Type 0 where
 -- moved by su and sv
 unfoldable pub moved : Float → Float → Loop → Loop
 moved su sv l =
-    let us = map (raised su) (l .us) in
-    let vs = map (raised sv) (l .vs) in
+    let us = map (movedBy (Up su)) (l .us) in
+    let vs = map (movedBy (Up sv)) (l .vs) in
     record { us = us; vs = vs; area = areaOf us vs }
 
 -- both shifts are added wherever one of them is not zero

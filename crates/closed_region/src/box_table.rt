@@ -12,10 +12,10 @@ ghost use Rattle.closed_region.specs.Outer.{boxAt};
 use super::boxes::Bounds;
 use super::outer::empty_box;
 use super::outer::hull;
-use slices::piece_end;
 use tables::corners::count;
 use tables::corners::u_at;
 use tables::corners::v_at;
+use tables::slices::piece_end;
 
 // How many boxes there are.
 pub fn box_count(boxes: &[f64]) -> usize

@@ -17,15 +17,15 @@ use super::rephase::Branch;
 use super::rephase::stays;
 use loops::rows::signed_area;
 use numbers::rounding::round;
-use slices::at;
-use slices::piece_end;
-use slices::put;
 use surfaces::surface::Period;
 use tables::corners::count;
 use tables::moves::Move;
 use tables::moves::move_u;
 use tables::moves::move_v;
 use tables::pieces::loop_of;
+use tables::slices::at;
+use tables::slices::piece_end;
+use tables::slices::put;
 
 // The length of a period, and 0.0 where a parameter does not come round.
 fn length_of(period: Period) -> f64

@@ -11,7 +11,7 @@ use super::box_table::box_count;
 use super::box_table::boxes_into;
 use super::enclosing::outer_loop;
 use super::outer::last_largest;
-use loops::part::part;
+use tables::slices::part;
 
 // The areas of the loops stand in front of `areas`; their boxes are written to the front of `boxes`.
 // Where that has no room for them the largest area decides alone.

@@ -14,7 +14,7 @@ use records::limits::version1;
 use results::Path;
 use results::Written;
 use results::write_result;
-use slices::shorter;
+use tables::slices::shorter;
 
 pub mod entry;
 

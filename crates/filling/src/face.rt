@@ -39,8 +39,8 @@ use records::read::read_head;
 use records::read::segments;
 use records::read::sense;
 use results::Path;
-use slices::at;
 use surfaces::surface::Surface;
+use tables::slices::at;
 
 pub enum Filled {
     // The path, and how many loops the result has.

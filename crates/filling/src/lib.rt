@@ -43,13 +43,13 @@ use measuring::refusals::last_wrapping;
 use numbers::math::Frame;
 use records::check::Place;
 use results::Path;
-use slices::put;
-use slices::shorter;
 use strip::closing::Closing;
 use surfaces::options::Resolved;
 use surfaces::surface::Period;
 use surfaces::surface::Surface;
 use tables::copies::copy_rows;
+use tables::slices::put;
+use tables::slices::shorter;
 use wrapped_region::order::goes_with;
 use wrapped_region::ordered::close_ordered;
 

@@ -23,7 +23,7 @@ use Rattle.surfaces.specs.declared.steps.Axis.the-variants.{U, «V»}
 use Rattle.surfaces.specs.declared.surface.Surface.{Surface}
 use Rattle.surfaces.specs.Domains.{domainOf}
 use Rattle.loops.specs.Area.{areaOf, crossSum}
-use Rattle.loops.specs.Part.{partOf}
+use Rattle.lists.specs.Parts.{partOf}
 use Rattle.tables.specs.Corners.{Corner, Corners, us, vs}
 use Rattle.tables.specs.Rows.{rows, none}
 use Rattle.full_domain.specs.Boundary.{isWhole, corner, cornerAlong, walked, side, sides, sidesOf, usOf, vsOf, rungsOf, wholeCorners, wholeArea, areaWithin, FourCorners}

@@ -16,7 +16,6 @@ use super::boundary::lay_rungs;
 use super::boundary::position_at;
 use super::boundary::range_of;
 use super::boundary::side_count;
-use loops::part::part;
 use loops::rows::signed_area;
 use numbers::math::Frame;
 use numbers::math::Vec2;
@@ -27,6 +26,7 @@ use tables::corners::Corner;
 use tables::corners::count;
 use tables::corners::put_corner;
 use tables::pieces::part_of;
+use tables::slices::part;
 
 // The rung of number i of a side.
 fn rung_of(rungs: &[f64], back: bool, i: usize) -> f64

@@ -11,9 +11,9 @@ ghost use Rattle.tables.specs.Rows.{rows};
 ghost use Rattle.holes.specs.Others.{others};
 use crate::picked::has_room;
 use crate::picked::is_ring;
-use slices::piece_end;
 use tables::copies::copy_rows;
 use tables::corners::count;
+use tables::slices::piece_end;
 
 // Where a loop from row `from` to `to`, unless it is a ring, ends behind `here`.
 fn behind(here: usize, from: usize, to: usize, ring: bool) -> usize

@@ -16,10 +16,10 @@ use rings::table_choices::greatest;
 use rings::table_choices::least;
 use rings::table_choices::straddles;
 use rings::table_choices::strip_shift;
-use slices::piece_end;
 use tables::corners::count;
 use tables::moves::Move;
 use tables::moves::move_unless_zero;
+use tables::slices::piece_end;
 
 // One hole, by whole periods.
 fn onto(t: &mut [f64], lo: f64, period: f64)

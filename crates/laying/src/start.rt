@@ -15,7 +15,6 @@ use rings::choices::nearest;
 use rings::moves::align_at;
 use rings::moves::begin_ring_at;
 use rings::table_choices::first_of;
-use slices::shorter;
 use starts::later_for;
 use starts::trials::Search;
 use starts::trials::search_tables;
@@ -23,6 +22,7 @@ use tables::columns::columns_into;
 use tables::columns::rows_from;
 use tables::corners::count;
 use tables::moves::Move;
+use tables::slices::shorter;
 
 // The first ring, begun at its point k on a copy of as many places. What a corner carries besides its
 // u is turned at the same point, and stays.

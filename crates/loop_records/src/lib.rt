@@ -6,7 +6,7 @@ ghost use mathlib.Core.List.{map};
 ghost use lib.ListN.{take};
 ghost use Rattle.lists.specs.Placed.{placed};
 ghost use Rattle.loop_records.specs.Record.{noLoop};
-use slices::shorter;
+use tables::slices::shorter;
 
 pub mod measure;
 pub mod ring;

@@ -13,9 +13,9 @@ use super::LoopRecord;
 use super::no_loop;
 use loops::rows::net_wrap;
 use loops::rows::signed_area;
-use slices::piece_end;
 use surfaces::surface::Period;
 use tables::corners::count;
+use tables::slices::piece_end;
 
 fn wrap_of(t: &[f64], period: Period) -> i32
     ensures { λ r. ⌜ r ≡ wrapAlong period (us (rows (now (t .entry)))) ⌝ }

@@ -7,4 +7,3 @@ pub mod Branch
 pub mod Mean
 pub mod Span
 pub mod Wrap
-pub mod Part

@@ -13,12 +13,13 @@ use Rattle.numbers.specs.Within.{Within}
 use Rattle.numbers.specs.declared.math.Vec3.{Vec3}
 use Rattle.numbers.proofs.Magnitude.{held-small, within-more, pow-more, add-within}
 use Rattle.numbers.proofs.math.Frames.{Billion, in-more}
-use Rattle.loops.specs.Part.{raised}
 use Rattle.closed_region.specs.Outer.{holesOf}
 use Rattle.closed_region.specs.Rephase.{shiftOf, moved, rephased}
 use Rattle.closed_region.specs.Rephase as Rephase
 use Rattle.closed_region.specs.declared.rephase.Branch.{Branch}
 use Rattle.tables.specs.Corners.{Corner, Corners, us, vs}
+use Rattle.tables.specs.Moves.{movedBy}
+use Rattle.tables.specs.declared.moves.Move.the-variants.{Up}
 use Rattle.records.specs.Result.{All, and}
 use Rattle.call.specs.Paths.{ResultLoop, signedArea, outerNumber, outerLoop, branchOf, rephasedHole, closedLoops}
 use Rattle.call.proofs.Doubles.{FitsCorner}
@@ -88,16 +89,16 @@ pub record Way (p : Float) (G M : ℕ) : Type 0 where
   pub most : M ≤ 2 ^ 20
   pub turns : ((p ≡ TAU) × (G ≡ 64)) ⊎ (p ≡ plusZero)
 
-raised-within : (G S M : ℕ) → G + S ≤ M → M ≤ 2 ^ 20 → (step : Float) → Within S step → {xs : List Float} → All (Known G) xs → All (Within M) (map (raised step) xs)
+raised-within : (G S M : ℕ) → G + S ≤ M → M ≤ 2 ^ 20 → (step : Float) → Within S step → {xs : List Float} → All (Known G) xs → All (Within M) (map (movedBy (Up step)) xs)
 raised-within G S M few most step w h =
     let held = held-small (G + S) (omega arith) in
-    all-map (raised step) (λ x v. within-more (G + S) M (raised step x) few (add-within G S x step held (v .within) w)) h
+    all-map (movedBy (Up step)) (λ x v. within-more (G + S) M (movedBy (Up step) x) few (add-within G S x step held (v .within) w)) h
 
 moved-within : (p : Float) (G M : ℕ) → Way p G M → (middle : Float) → Known G middle → {xs : List Float} → All (Known G) xs → 0 < length xs
-    → All (Within M) (map (raised (shiftOf middle p xs)) xs)
+    → All (Within M) (map (movedBy (Up (shiftOf middle p xs))) xs)
 moved-within p G M way middle w {xs} h some = go (way .turns)
   where
-    go : ((p ≡ TAU) × (G ≡ 64)) ⊎ (p ≡ plusZero) → All (Within M) (map (raised (shiftOf middle p xs)) xs)
+    go : ((p ≡ TAU) × (G ≡ 64)) ⊎ (p ≡ plusZero) → All (Within M) (map (movedBy (Up (shiftOf middle p xs))) xs)
     go (inl e) =
         let at-64 = subst (λ (g : ℕ). Known g middle) (e .1) w in
         let all-64 = subst (λ (g : ℕ). All (Known g) xs) (e .1) h in
@@ -149,7 +150,7 @@ module _ (d : ℕ) (few-d : d ≤ 16) (G H A B : ℕ) (b : Branch) (across : Way
         us = us-are;
         vs = vs-are;
         area = area-within 20 20 (lit≤ tt) _ _ (all-so (λ x w. within-more A (2 ^ 20) x most w) us-are) (all-so (λ x w. within-more B (2 ^ 20) x v-most w) vs-are)
-            d few-d (rw (length-map (us r) (raised su), length-map r u-of) short);
+            d few-d (rw (length-map (us r) (movedBy (Up su)), length-map r u-of) short);
       }
 
   rephased-sized : SizedParts (rephased b loop)

@@ -7,9 +7,9 @@ ghost use Rattle.call.specs.Face.{surfaceOf};
 ghost use Rattle.measuring.specs.Head.{vectorAt, frameAt, optionsAt};
 use numbers::math::Frame;
 use numbers::math::Vec3;
-use slices::at;
 use surfaces::options::Resolved;
 use surfaces::surface::Surface;
+use tables::slices::at;
 
 // The kind, with its size and its second one.
 pub fn surface_of(kind: u8, a: f64, b: f64) -> Surface

@@ -10,8 +10,8 @@ ghost use Rattle.seam.specs.Gap.{span, spansOf, gapAlong, sortedLows, so
 ghost use Rattle.seam.specs.Gap as Gaps;
 use numbers::order::max;
 use rings::moves::begin;
-use slices::shorter;
 use tables::moves::Move;
+use tables::slices::shorter;
 
 // How far the holes reach so far, the widest gap before them, and its middle.
 pub struct Gap {

@@ -8,8 +8,8 @@ use rings::choices::first_of;
 use rings::choices::nearest;
 use rings::moves::align_at;
 use rings::moves::move_unless_zero;
-use slices::at;
 use tables::moves::Move;
+use tables::slices::at;
 
 pub mod trials;
 

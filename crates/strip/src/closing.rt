@@ -19,11 +19,11 @@ use super::walls::inner_between;
 use super::walls::raise_wall;
 use loops::rows::signed_area;
 use numbers::math::Frame;
-use slices::shorter;
 use surfaces::options::Resolved;
 use surfaces::surface::Surface;
 use tables::corners::count;
 use tables::corners::put_corner;
+use tables::slices::shorter;
 
 pub enum Closing {
     // How many corners are left, and the area they enclose in u and v.

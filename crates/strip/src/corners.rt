@@ -7,11 +7,11 @@ ghost use Rattle.tables.specs.Rows.{rows, cornerOf, none};
 ghost use Rattle.strip.specs.Corners.{atU, farSide, stripWith};
 ghost use Rattle.strip.specs.Count.{capped, stripCount};
 use super::count::strip_count;
-use slices::shorter;
 use tables::corners::Corner;
 use tables::corners::corner_at;
 use tables::corners::count;
 use tables::corners::u_at;
+use tables::slices::shorter;
 
 // The first n rows of a table; all of them where it has fewer.
 pub fn first_rows(t: &[f64], n: usize) -> &[f64]

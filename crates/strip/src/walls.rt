@@ -13,7 +13,6 @@ use numbers::math::Vec2;
 use numbers::order::max;
 use numbers::order::min;
 use rings::moves::reverse;
-use slices::shorter;
 use surfaces::knots::inner_count;
 use surfaces::knots::inner_into;
 use surfaces::options::Resolved;
@@ -24,6 +23,7 @@ use tables::corners::count;
 use tables::corners::put_corner;
 use tables::corners::u_at;
 use tables::corners::v_at;
+use tables::slices::shorter;
 
 // How many corners a wall has between the two rings. 02, N2 changes neither them nor their heights.
 pub fn wall_count(surface: Surface, options: Resolved, lower: f64, upper: f64) -> usize

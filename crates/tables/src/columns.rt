@@ -10,8 +10,8 @@ use super::corners::Corner;
 use super::corners::corner_at;
 use super::corners::count;
 use super::corners::put_corner;
+use super::slices::shorter;
 use numbers::math::Vec3;
-use slices::shorter;
 
 pub enum Column {
     ParamU,

@@ -7,7 +7,7 @@ ghost use Rattle.tables.specs.Corners.{us};
 ghost use Rattle.tables.specs.Rows.{rows};
 use super::corners::count;
 use super::corners::u_at;
-use slices::copy_into;
+use super::slices::copy_into;
 
 // The rows of src from one up to another into dst, from row `at` on.
 fn copy_part(dst: &mut [f64], at: usize, src: &[f64], from: usize, to: usize)

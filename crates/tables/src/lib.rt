@@ -5,3 +5,4 @@ pub mod copies;
 pub mod corners;
 pub mod moves;
 pub mod pieces;
+pub mod slices;

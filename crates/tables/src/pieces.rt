@@ -5,7 +5,7 @@ ghost use lib.ListN.{getD, take, drop};
 ghost use Rattle.lists.specs.Pieces.{pieces};
 ghost use Rattle.tables.specs.Rows.{rows};
 use super::corners::count;
-use slices::piece_end;
+use super::slices::piece_end;
 
 // Loop k; past the last one, nothing.
 pub fn loop_of<'a>(t: &'a [f64], counts: &[usize], k: usize) -> &'a [f64]

@@ -13,7 +13,7 @@ use borrow.Author.Tests.{le-leb, lt-leb, leb-true, leb-false, lt-ltb, le-ltb}
 use Rattle.lists.specs.Placed.{placed}
 use Rattle.lists.proofs.Filling.{Filling, front, front-turn, filling-end}
 use Rattle.lists.proofs.Placed.{placed-short, placed-after}
-use Rattle.loops.specs.Part.{partOf}
+use Rattle.lists.specs.Parts.{partOf}
 use Rattle.closed_face.specs.First.{partFirst, placeAt}
 
 module _ {A : Type 0} (start count : ℕ) (src : List A) where

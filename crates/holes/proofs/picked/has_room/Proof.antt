@@ -1,4 +1,4 @@
-use Rattle.slices.proofs.Laws.{room-less, room-is}
+use Rattle.tables.proofs.slices.Laws.{room-less, room-is}
 use Rattle.holes.proofs.picked.has_room.Statement.{statement}
 use Rattle.holes.proofs.picked.has_room.Tie as tie
 

@@ -1,8 +1,8 @@
 use mathlib.Core.Path.{refl}
-use Rattle.loops.proofs.part.Laws.{part-past, part-rest, part-within}
+use Rattle.tables.proofs.slices.Parts.{part-past, part-rest, part-within}
 use borrow.Author.Needs.{needs}
-use Rattle.loops.proofs.part.part.Statement.{statement}
-use Rattle.loops.proofs.part.part.Tie as tie
+use Rattle.tables.proofs.slices.part.Statement.{statement}
+use Rattle.tables.proofs.slices.part.Tie as tie
 
 returns : tie.Need-returns
 returns c = part-past _ _ _ _ refl (c .before .if1 .taken)

@@ -2,9 +2,9 @@ use Prim.Native.Nat.{_-_}
 use native.Mathlib.Omega.{arith}
 use borrow.Author.Needs.{needs}
 use lib.ListN.{replicate, length-replicate}
-use Rattle.slices.proofs.Laws as laws
-use Rattle.slices.proofs.fill.Statement.{statement}
-use Rattle.slices.proofs.fill.Tie as tie
+use Rattle.tables.proofs.slices.Laws as laws
+use Rattle.tables.proofs.slices.fill.Statement.{statement}
+use Rattle.tables.proofs.slices.fill.Tie as tie
 
 abbrev Inv-loop : tie.InvT-loop
 Inv-loop dst₀ from n x i₀ dst i = laws.Writing from (replicate n x) dst₀ dst n i

@@ -1,6 +1,6 @@
-use Rattle.slices.proofs.Laws as laws
-use Rattle.slices.proofs.has_room.Statement.{statement}
-use Rattle.slices.proofs.has_room.Tie as tie
+use Rattle.tables.proofs.slices.Laws as laws
+use Rattle.tables.proofs.slices.has_room.Statement.{statement}
+use Rattle.tables.proofs.slices.has_room.Tie as tie
 
 returns : tie.Need-returns
 returns c = laws.room-less _ _ _ (c .if1 .taken)

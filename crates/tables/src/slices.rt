@@ -6,6 +6,7 @@ ghost use Prim.Native.Nat.{_+_, min};
 ghost use lib.Dec.{leb};
 ghost use lib.Ieee.{nan};
 ghost use lib.ListN.{length, getD, set, replicate};
+ghost use Rattle.lists.specs.Parts.{partOf};
 ghost use Rattle.lists.specs.Placed.{placed};
 
 // The shorter of two lengths.
@@ -100,4 +101,19 @@ pub fn piece_end(n: usize, from: usize, count: usize) -> usize
         return n;
     }
     from + count
+}
+
+// The elements from start on, count of them or as many as there are.
+pub fn part(xs: &[f64], start: usize, count: usize) -> &[f64]
+    ensures { λ r. ⌜ now r ≡ partOf start count (now (xs .entry)) ⌝ }
+{
+    let n = xs.len();
+    if n < start {
+        return &xs[n..n];
+    }
+    if n - start < count {
+        return &xs[start..n];
+    }
+    let end = start + count;
+    &xs[start..end]
 }

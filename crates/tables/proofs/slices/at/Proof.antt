@@ -2,9 +2,9 @@ use mathlib.Core.Path.{sym, _∙_}
 use borrow.Author.Needs.{needs}
 use lib.Ieee.{nan}
 use lib.ListN.{List·getD-eq-default}
-use Rattle.slices.proofs.Laws as laws
-use Rattle.slices.proofs.at.Statement.{statement}
-use Rattle.slices.proofs.at.Tie as tie
+use Rattle.tables.proofs.slices.Laws as laws
+use Rattle.tables.proofs.slices.at.Statement.{statement}
+use Rattle.tables.proofs.slices.at.Tie as tie
 
 returns-2 : tie.Need-returns-2
 returns-2 c = laws.nan-is ∙ sym (List·getD-eq-default (c .before .args .s .now) nan (c .if1 .left))

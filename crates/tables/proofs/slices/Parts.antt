@@ -5,7 +5,7 @@ use mathlib.Core.List.{List}
 use native.Mathlib.Omega.{arith}
 use lib.ListN.{length, take, drop, length-drop, drop-of-length-le}
 use lib.Seq.{take-all, take-nil}
-use Rattle.loops.specs.Part.{partOf}
+use Rattle.lists.specs.Parts.{partOf}
 
 module _ {A : Type 0} where
   -- ---- the part that the code takes, by its tests

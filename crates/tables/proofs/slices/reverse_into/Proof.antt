@@ -2,9 +2,9 @@ use Prim.Native.Nat.{_-_}
 use mathlib.Core.List.{reverse}
 use native.Mathlib.Omega.{arith}
 use borrow.Author.Needs.{needs}
-use Rattle.slices.proofs.Laws as laws
-use Rattle.slices.proofs.reverse_into.Statement.{statement}
-use Rattle.slices.proofs.reverse_into.Tie as tie
+use Rattle.tables.proofs.slices.Laws as laws
+use Rattle.tables.proofs.slices.reverse_into.Statement.{statement}
+use Rattle.tables.proofs.slices.reverse_into.Tie as tie
 
 abbrev Inv-loop : tie.InvT-loop
 Inv-loop dst₀ from src n i₀ dst i = laws.Writing from (reverse src) dst₀ dst n i

@@ -1,8 +1,8 @@
 use mathlib.Core.Path.{sym}
 use borrow.Author.Needs.{needs}
 use lib.Seq.{set-out}
-use Rattle.slices.proofs.put.Statement.{statement}
-use Rattle.slices.proofs.put.Tie as tie
+use Rattle.tables.proofs.slices.put.Statement.{statement}
+use Rattle.tables.proofs.slices.put.Tie as tie
 
 returns-2 : tie.Need-returns-2
 returns-2 c = sym (set-out _ _ _ (c .if1 .left))
