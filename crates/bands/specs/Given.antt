@@ -4,6 +4,7 @@ use mathlib.Core.Bool.{Bool, true, false, cond, not}
 use mathlib.Core.List.{List, [], _∷_, map, reverse}
 use lib.IntN.{ℤ, pos, negsuc}
 use lib.ListN.{getD}
+use Rattle.lists.specs.Elements.{only}
 use Rattle.tables.specs.Corners.{Corners}
 
 -- a loop of the face record, and its wrap
@@ -29,11 +30,6 @@ wraps (negsuc n) = true
 abbrev pub falls : ℤ → Bool
 falls (pos n) = false
 falls (negsuc n) = true
-
--- the elements that pass, in order
-unfoldable pub only : {A : Type 0} → (A → Bool) → List A → List A
-only p [] = []
-only p (x ∷ xs) = cond (p x) (x ∷ only p xs) (only p xs)
 
 module _ {A : Type 0} where
   abbrev pub loopOf : Measured A → Loop A

@@ -19,7 +19,8 @@ use Rattle.rings.specs.Choices.{leastU, greatestU, firstPast, firstOpenPast, st
 use Rattle.tables.specs.Moves.{unlessZero}
 use Rattle.rings.specs.Turns.{turnedUnless, turnedOnto, alignAt}
 use Rattle.rings.specs.Starts.{bare, serves, firstServing, start, alignCuts, slideToCut}
-use Rattle.bands.specs.Given.{Measured, Given, only, givenOf}
+use Rattle.bands.specs.Given.{Measured, Given, givenOf}
+use Rattle.lists.specs.Elements.{only}
 use Rattle.bands.specs.Rings.{Face, rising, shifted, laid, onto, onStrip, anyStraddles, acrossSeam, gapOf, recut, cutAnew, hasStrip, hasGap, reseam, trial, started}
 use Rattle.seam.specs.Gap.{insert, sorted, passed, gapAlong, widestGap, usable}
 use Rattle.surfaces.specs.declared.surface.Period.the-variants.{Every, None}

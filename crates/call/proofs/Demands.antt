@@ -18,10 +18,11 @@ use Rattle.loops.specs.Steps.{PartialEquivalence}
 use Rattle.loops.proofs.SamePosition.{same-position}
 use Rattle.bands.specs.Band.{outer, holes}
 use Rattle.tables.specs.Corners.{Corners, positions}
-use Rattle.bands.specs.Given.{Measured, only, givenOf}
+use Rattle.bands.specs.Given.{Measured, givenOf}
+use Rattle.lists.specs.Elements.{only, sum, All, none, and}
 use Rattle.bands.proofs.Demand.{holes-as-many, demand3}
 use Rattle.bands.specs.Demand.{Whole, Demand3}
-use Rattle.records.specs.Bytes.{sum, byteAt, _<?_, _=?_}
+use Rattle.records.specs.Bytes.{byteAt, _<?_, _=?_}
 use Rattle.records.specs.Call as Call
 use Rattle.records.specs.Call.{Outcome, refused, closed, code, value, lentAfter}
 use Rattle.records.specs.Face.{loops}
@@ -29,7 +30,7 @@ use Rattle.records.specs.declared.limits.Limits.{Limits}
 use Rattle.records.specs.Encodable.{Encodable, mostCorners, version1-encodable}
 use Rattle.records.specs.Limits.{version1}
 use Rattle.records.specs.Refusals.{nowhere, at, firstWhere, Condition, never, conditions, NoneHolds}
-use Rattle.records.specs.Result.{All, none, and, Writable, encode, decode, loopPositionsOf, countOf, resultOf}
+use Rattle.records.specs.Result.{Writable, encode, decode, loopPositionsOf, countOf, resultOf}
 use Rattle.records.proofs.Closing.{closed-accepted, closed-read, closed-length, closed-fits, lent-stays}
 use Rattle.records.proofs.Pieces.{loop-positions}
 use Rattle.records.proofs.Refused.{refused-exactly, closed-exactly}

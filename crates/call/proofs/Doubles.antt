@@ -22,7 +22,8 @@ use Rattle.bands.specs.Band.{lift, lowerFirst, lowerRing, upperRing, stripOf, o
 use Rattle.tables.specs.Corners.{Corner, Corners, moveU}
 use Rattle.bands.specs.Given.{Given}
 use Rattle.bands.specs.Strip.{Setting, ladder, heights, wall, strip}
-use Rattle.records.specs.Result.{All, and, Fits, FitsXyz}
+use Rattle.records.specs.Result.{Fits, FitsXyz}
+use Rattle.lists.specs.Elements.{All, and}
 use Rattle.call.proofs.Each.{all-first, all-at, all-append, all-reverse, all-if, all-map, all-dropRepeats}
 use Rattle.call.proofs.Rings.{EachGiven, pick-each, lower-each, holes-each}
 

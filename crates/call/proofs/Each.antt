@@ -15,8 +15,7 @@ use Rattle.loops.specs.Repeats.{keep, keptFrom, dropSuccessive, cutBack, dropTr
 use Rattle.loops.specs.Rings.{begun, closed, turned}
 use Rattle.tables.specs.Moves.{unlessZero}
 use Rattle.rings.specs.Turns.{turnedUnless, beginRingAt, recutAt, turnedOnto, alignAt}
-use Rattle.bands.specs.Given.{only}
-use Rattle.records.specs.Result.{All, none, and}
+use Rattle.lists.specs.Elements.{only, All, none, and}
 
 module _ {A : Type 0} {P : A → Type 0} where
   -- ---- a list and its elements

@@ -15,11 +15,12 @@ use Rattle.lists.proofs.Maps.{map-take, map-drop}
 use Rattle.lists.proofs.Pieces.{length-pieces}
 use Rattle.loops.specs.Wrap.{netWrap}
 use Rattle.tables.specs.Corners.{Corner, Corners, positions, cornersFrom}
-use Rattle.bands.specs.Given.{Measured, wraps, only, givenOf}
-use Rattle.records.specs.Bytes.{uvAt, xyzAt, sum}
+use Rattle.bands.specs.Given.{Measured, wraps, givenOf}
+use Rattle.lists.specs.Elements.{only, sum, All, none, and}
+use Rattle.records.specs.Bytes.{uvAt, xyzAt}
 use Rattle.records.specs.Face.{loops, counts, points, parameters, loopPositions, uOf, vOf, cornersIn}
 use Rattle.records.specs.Face as Face
-use Rattle.records.specs.Result.{All, none, and, Fits, FitsXyz}
+use Rattle.records.specs.Result.{Fits, FitsXyz}
 use Rattle.records.proofs.Accepted.{parameters-fit, positions-fit}
 use Rattle.records.proofs.Columns.{length-counts}
 use Rattle.records.proofs.Rows.{length-rowAt}

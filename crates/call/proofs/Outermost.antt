@@ -9,7 +9,7 @@ use lib.Ieee.{Float, nan, lt}
 use lib.ListN.{length, getD, length-map}
 use Rattle.numbers.specs.Order.{absOf}
 use Rattle.numbers.specs.declared.math.Vec3.{Vec3}
-use Rattle.records.specs.Result.{All, none, and}
+use Rattle.lists.specs.Elements.{All, none, and}
 use Rattle.closed_region.specs.Outer.{passing, theOne, enclosingOne, enclosesOthers, slackOf, lastLargest, outerOf}
 use Rattle.tables.specs.Corners.{Corners}
 use Rattle.call.specs.Paths.{boundsOf, signedArea, outerNumber}

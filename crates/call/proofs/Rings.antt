@@ -16,7 +16,8 @@ use Rattle.bands.specs.Rings.{Face, rising, shifted, laid, seam, onto, onStrip,
 use Rattle.rings.specs.Starts.{raised, lessU, alignCuts, slideToCut}
 use Rattle.bands.specs.Strip.{Setting}
 use Rattle.bands.proofs.Recut.{at-open-point, recut-is}
-use Rattle.records.specs.Result.{All, Fits}
+use Rattle.records.specs.Result.{Fits}
+use Rattle.lists.specs.Elements.{All}
 use Rattle.call.proofs.Each.{all-reverse, all-if, all-map, all-unlessZero, all-recutAt, all-beginRingAt, all-alignAt}
 
 module _ {A : Type 0} (P : Corner A → Type 0) where

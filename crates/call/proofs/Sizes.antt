@@ -9,9 +9,8 @@ use lib.ListN.{length, getD, take, drop, length-append, take-append-drop}
 use lib.Ieee.{Float}
 use Rattle.lists.specs.Pieces.{pieces}
 use Rattle.closed_region.specs.Outer.{holesOf}
-use Rattle.bands.specs.Given.{only}
-use Rattle.records.specs.Bytes.{sum}
-use Rattle.records.specs.Result.{All, none, and, Short}
+use Rattle.lists.specs.Elements.{only, sum, All, none, and}
+use Rattle.records.specs.Result.{Short}
 use Rattle.tables.specs.Corners.{cornersFrom}
 use Rattle.call.proofs.Each.{all-so}
 

@@ -25,7 +25,8 @@ use Rattle.surfaces.proofs.knots.Rungs.{inner-few}
 use Rattle.surfaces.proofs.steps.Count.{v-steps-few}
 use Rattle.bands.specs.Band.{lift, pick, joined, lowerFirst, lowerRing, upperRing, stripOf}
 use Rattle.tables.specs.Corners.{Corner, Corners, cornersFrom}
-use Rattle.bands.specs.Given.{only, givenOf}
+use Rattle.bands.specs.Given.{givenOf}
+use Rattle.lists.specs.Elements.{only, All, none, and}
 use Rattle.bands.specs.Strip.{Setting, ladder, heights, wall, strip}
 use Rattle.bands.proofs.Lengths.{length-first, length-later}
 use Rattle.records.specs.Bytes.{_≤?_, _=?_}
@@ -33,7 +34,6 @@ use Rattle.records.specs.Face.{kind, counts, points, realOf, vOf, cornersIn}
 use Rattle.records.specs.declared.limits.Limits.{Limits}
 use Rattle.records.specs.Accepted.{Accepted}
 use Rattle.records.specs.Limits.{64·0, 10^6, cone, holds, upTo, vRange}
-use Rattle.records.specs.Result.{All, none, and}
 use Rattle.records.proofs.Accepted.{parameters-in-range}
 use Rattle.records.proofs.Bounds.{within-64}
 use Rattle.call.specs.Face.{surfaceOf, surfaceIn, optionsIn, loopsIn, measuredIn, isWrapping, settingIn, givenIn}

@@ -32,11 +32,12 @@ use Rattle.tables.specs.Corners.{Corner, Corners, us, vs, positions}
 use Rattle.tables.specs.Moves.{movedBy}
 use Rattle.tables.specs.declared.moves.Move.the-variants.{Up}
 use Rattle.bands.proofs.Demand.{holes-counts, holes-as-many}
-use Rattle.records.specs.Bytes.{sum, _=?_}
+use Rattle.records.specs.Bytes.{_=?_}
+use Rattle.lists.specs.Elements.{sum, All, none, and}
 use Rattle.records.specs.Face.{loops, points}
 use Rattle.records.specs.declared.limits.Limits.{Limits}
 use Rattle.records.specs.Encodable.{Encodable, mostCorners}
-use Rattle.records.specs.Result.{All, none, and, Fits, FitsUv, FitsXyz, Writable, Loop, cornersOf, countOf, resultOf}
+use Rattle.records.specs.Result.{Fits, FitsUv, FitsXyz, Writable, Loop, cornersOf, countOf, resultOf}
 use Rattle.records.specs.Result as Result
 use Rattle.records.proofs.Pieces.{writable}
 use Rattle.call.specs.Face.{frameIn, surfaceIn, optionsIn, uPeriodIn, vPeriodIn, loopsIn, wrapping, settingIn, givenIn}

@@ -18,7 +18,8 @@ use Rattle.lists.specs.Pieces.{pieces}
 use Rattle.loops.specs.Wrap.{netWrap}
 use Rattle.tables.specs.Corners.{Corners, us}
 use Rattle.bands.specs.Columns.{settingOf}
-use Rattle.bands.specs.Given.{Measured, Given, wraps, only, givenOf}
+use Rattle.bands.specs.Given.{Measured, Given, wraps, givenOf}
+use Rattle.lists.specs.Elements.{only}
 use Rattle.bands.specs.Strip.{Setting}
 use Rattle.records.specs.Bytes.{_=?_}
 use Rattle.records.specs.Face.{kind, sense, segments, counts, realOf, cornersIn}

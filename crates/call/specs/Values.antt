@@ -38,10 +38,11 @@ use Rattle.tables.specs.Moves.{unlessZero}
 use Rattle.rings.specs.Turns.{turnedUnless, turnedOnto, alignAt}
 use Rattle.full_domain.specs.Boundary.{stepsOf, rungsOf, sides, sidesOf, wholeCorners, wrapOf, positionOf}
 use Rattle.bands.specs.Band.{firstIsLower, lift, joined, lowerFirst, lowerRing, upperRing, stripOf, outer, holes}
-use Rattle.bands.specs.Given.{only, givenOf}
+use Rattle.bands.specs.Given.{givenOf}
+use Rattle.lists.specs.Elements.{only, sum}
 use Rattle.bands.specs.Rings.{rising, shifted, laid, onto, onStrip, anyStraddles, acrossSeam, hasStrip, reseam, trial, started}
 use Rattle.bands.specs.Strip.{ladder, heights, strip}
-use Rattle.records.specs.Bytes.{number, numberAt, realAt, uvAt, xyzAt, rowAt, bytes, real, uv, xyz, row, sum}
+use Rattle.records.specs.Bytes.{number, numberAt, realAt, uvAt, xyzAt, rowAt, bytes, real, uv, xyz, row}
 use Rattle.records.specs.Call as Call
 use Rattle.records.specs.Call.{refused, closed, code, value}
 use Rattle.records.specs.Face.{start, counts, parameters, positions, cornersIn}

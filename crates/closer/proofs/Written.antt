@@ -10,14 +10,15 @@ use lib.ListN.{length, take, length-map}
 use Rattle.numbers.specs.declared.math.Vec3.{Vec3}
 use Rattle.tables.specs.Corners.{Corner, uvOf}
 use Rattle.tables.specs.Rows.{rows}
-use Rattle.records.specs.Bytes.{_=?_, sum}
+use Rattle.records.specs.Bytes.{_=?_}
+use Rattle.lists.specs.Elements.{sum, All, none, and}
 use Rattle.records.specs.Call.{Outcome, refused, closed, lentAfter}
 use Rattle.records.specs.Face.{loops, points}
 use Rattle.records.specs.Lent.{filledIf}
 use Rattle.records.specs.declared.limits.Limits.{Limits}
 use Rattle.records.specs.Encodable.{Encodable}
 use Rattle.records.specs.Refusals.{Place, nowhere, at, Condition, Verdict, passes, refuses, refuseAt, verdict}
-use Rattle.records.specs.Result.{All, none, and, Short, Writable, encode, cornersOf, countOf, areaOf, resultOf}
+use Rattle.records.specs.Result.{Short, Writable, encode, cornersOf, countOf, areaOf, resultOf}
 use Rattle.records.proofs.RoundTrip.{length-encode, encode-fits}
 use Rattle.results.specs.declared.Path.{Path}
 use Rattle.results.specs.declared.Path.the-variants.{Closed as Closes, Wrapped, Whole}

@@ -29,7 +29,8 @@ use Rattle.strip.specs.Closing.{closedAs}
 use Rattle.strip.specs.Count.{capped}
 use Rattle.strip.specs.declared.closing.Closing.{Closing}
 use Rattle.strip.specs.declared.closing.Closing.the-variants.{Closed, TooMany}
-use Rattle.records.specs.Bytes.{sum, _=?_}
+use Rattle.records.specs.Bytes.{_=?_}
+use Rattle.lists.specs.Elements.{sum}
 use Rattle.records.specs.Face as Record
 use Rattle.records.specs.Limits.{version1}
 use Rattle.records.specs.Refusals.{Verdict, passes, refuses, verdict}

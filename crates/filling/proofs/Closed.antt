@@ -21,7 +21,7 @@ use Rattle.tables.proofs.Rows.{length-rows}
 use Rattle.closed_region.specs.Loops.{boxesIn}
 use Rattle.closed_region.proofs.BoxTable.{length-boxes}
 use Rattle.records.specs.Accepted.{Accepted}
-use Rattle.records.specs.Bytes.{sum}
+use Rattle.lists.specs.Elements.{sum}
 use Rattle.records.specs.Face.{loops}
 use Rattle.records.specs.Face as Face
 use Rattle.records.specs.Refusals.{passes}

@@ -10,7 +10,7 @@ use Rattle.lists.specs.Placed.{placed}
 use Rattle.lists.proofs.Placed.{placed-fits, front-placed}
 use Rattle.tables.specs.Corners.{Corners}
 use Rattle.tables.specs.Rows.{rows}
-use Rattle.records.specs.Bytes.{sum}
+use Rattle.lists.specs.Elements.{sum}
 use Rattle.records.specs.Refusals.{passes}
 use Rattle.records.specs.Result.{Loop, cornersOf, countOf, areaOf}
 use Rattle.results.specs.declared.Path.{Path}

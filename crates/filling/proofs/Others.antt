@@ -10,8 +10,7 @@ use lib.Dec.{eqb}
 use lib.ListN.{length, getD, take, drop, length-append, length-drop}
 use lib.Seq.{take-at, drop-at, take-add, length-take-le}
 use Rattle.lists.specs.Pieces.{pieces}
-use Rattle.bands.specs.Given.{only}
-use Rattle.records.specs.Bytes.{sum}
+use Rattle.lists.specs.Elements.{only, sum}
 use Rattle.holes.specs.Others.{isRing, othersFrom, others}
 use Rattle.holes.proofs.Picking.{others-first}
 

@@ -17,7 +17,7 @@ use Rattle.tables.specs.Corners.{Corners, us}
 use Rattle.loop_records.specs.declared.LoopRecord.{LoopRecord}
 use Rattle.loop_records.specs.Record.{noLoop}
 use Rattle.bands.specs.Given.{falls}
-use Rattle.records.specs.Bytes.{sum}
+use Rattle.lists.specs.Elements.{sum}
 use Rattle.call.proofs.Sizes.{total}
 use Rattle.loop_records.specs.Loops.{wrapAlong, signOf, recordOf, recordsFrom}
 use Rattle.loop_records.proofs.Recorded.{length-records}

@@ -9,8 +9,8 @@ use native.Mathlib.Omega.{arith}
 use lib.ListN.{length, getD, length-map}
 use Rattle.numbers.specs.declared.math.Vec3.{Vec3}
 use Rattle.tables.specs.Corners.{Corners}
-use Rattle.bands.specs.Given.{Measured, Loop, only, givenOf}
-use Rattle.records.specs.Bytes.{sum}
+use Rattle.bands.specs.Given.{Measured, Loop, givenOf}
+use Rattle.lists.specs.Elements.{only, sum}
 use Rattle.records.specs.Refusals.{nowhere, at, firstWhere}
 use Rattle.records.proofs.Search.{Least, nowhere≢at, first-holds, first-fails}
 use Rattle.call.specs.Face.{loopsIn, measuredIn, isWrapping, wrapping, givenIn}

@@ -6,7 +6,8 @@ use mathlib.Core.List.{List, map}
 use lib.Ieee.{Float}
 use lib.ListN.{length, take}
 use Rattle.tables.specs.Rows.{rows}
-use Rattle.records.specs.Bytes.{_=?_, sum}
+use Rattle.records.specs.Bytes.{_=?_}
+use Rattle.lists.specs.Elements.{sum}
 use Rattle.records.specs.Face.{loops}
 use Rattle.records.specs.declared.read.Read.{Read}
 use Rattle.records.specs.declared.read.Read.the-variants.{Count, Refused as Unread}

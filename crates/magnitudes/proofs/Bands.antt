@@ -33,7 +33,7 @@ use Rattle.records.specs.declared.limits.Limits.{Limits}
 use Rattle.records.specs.Accepted.{Accepted}
 use Rattle.records.specs.Face.{kind, realOf}
 use Rattle.records.specs.Limits.{plane}
-use Rattle.records.specs.Result.{All, and}
+use Rattle.lists.specs.Elements.{All, and}
 use Rattle.call.specs.Face.{frameIn, surfaceOf, surfaceIn, optionsIn, loopsIn, wrapOf, measuredIn, isWrapping, wrapping, settingIn, givenIn}
 use Rattle.call.proofs.Each.{all-first, all-append, all-drop, all-dropLast, all-reverse, all-if, all-map, all-so, all-dropRepeats}
 use Rattle.call.proofs.Loops.{loops-fit, given-each}

@@ -20,7 +20,7 @@ use Rattle.closed_region.specs.declared.rephase.Branch.{Branch}
 use Rattle.tables.specs.Corners.{Corner, Corners, us, vs}
 use Rattle.tables.specs.Moves.{movedBy}
 use Rattle.tables.specs.declared.moves.Move.the-variants.{Up}
-use Rattle.records.specs.Result.{All, and}
+use Rattle.lists.specs.Elements.{All, and}
 use Rattle.call.specs.Paths.{ResultLoop, signedArea, outerNumber, outerLoop, branchOf, rephasedHole, closedLoops}
 use Rattle.call.proofs.Doubles.{FitsCorner}
 use Rattle.call.proofs.Each.{all-in, all-append, all-take, all-drop, all-map, all-so}

@@ -29,7 +29,7 @@ use Rattle.loops.specs.Span.{leastOf, greatestOf, middleOf}
 use Rattle.loops.proofs.Landing.{lands, left-half, half-turned, left-turn}
 use Rattle.closed_region.specs.Rephase.{shiftOf}
 use Rattle.rings.specs.Choices.{stripShift}
-use Rattle.records.specs.Result.{All, none, and}
+use Rattle.lists.specs.Elements.{All, none, and}
 use Rattle.call.proofs.Each.{all-in, all-at}
 
 -- ---- what holds of each element, twice

@@ -23,11 +23,11 @@ use Rattle.lists.specs.Pieces.{pieces}
 use Rattle.tables.specs.Corners.{Corner, Corners, positions, cornersFrom}
 use Rattle.records.specs.declared.limits.Limits.{Limits}
 use Rattle.records.specs.Accepted.{Accepted}
-use Rattle.records.specs.Bytes.{u16At, sum, _=?_}
+use Rattle.records.specs.Bytes.{u16At, _=?_}
+use Rattle.lists.specs.Elements.{sum, All, none, and}
 use Rattle.records.specs.Face.{headReals, kind, loops, counts, points, realOf, parameters, uOf, vOf, cornersIn}
 use Rattle.records.specs.Face as Face
 use Rattle.records.specs.Limits.{10^6, 64·0, 1·5, 10^-6, 0·0, Range, _to_, upTo, holds, plane, cone, radius, second, uRange, vRange, headRange}
-use Rattle.records.specs.Result.{All, none, and}
 use Rattle.records.proofs.Accepted.{parameters-in-range, positions-in-range, points-sum}
 use Rattle.records.proofs.Bounds.{within-billion, within-million, within-64, length-within, radius-within, none-within, angle-under}
 use Rattle.records.proofs.Ranges.{range-head}

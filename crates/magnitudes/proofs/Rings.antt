@@ -31,7 +31,7 @@ use Rattle.bands.specs.Given.{Loop, Given}
 use Rattle.bands.specs.Rings.{Face, rising, shifted, laid, seam, onto, onStrip, gapOf, recut, cutAnew, hasStrip, acrossSeam, hasGap, reseam, trial, started}
 use Rattle.rings.specs.Starts.{lessU, raised, alignCuts, slideToCut}
 use Rattle.bands.proofs.Recut.{at-open-point, recut-is}
-use Rattle.records.specs.Result.{All, none, and}
+use Rattle.lists.specs.Elements.{All, none, and}
 use Rattle.call.proofs.Each.{all-in, all-append, all-dropLast, all-reverse, all-if, all-map, all-so, all-begun, all-closed, all-recutAt}
 use Rattle.magnitudes.proofs.Loops.{Known, known-more, pick-known, min-known, least-known, greatest-known, branch-within, landed-apart, strip-shift-within}
 

@@ -32,7 +32,8 @@ use Rattle.records.specs.declared.limits.Limits.{Limits}
 use Rattle.records.specs.Encodable.{Encodable, version1-encodable}
 use Rattle.records.specs.Limits.{version1, plane, cone}
 use Rattle.records.specs.Refusals.{conditions, NoneHolds}
-use Rattle.records.specs.Result.{Result, All, none, and, decode, cornersOf, resultOf}
+use Rattle.records.specs.Result.{Result, decode, cornersOf, resultOf}
+use Rattle.lists.specs.Elements.{All, none, and}
 use Rattle.records.specs.Result as Result
 use Rattle.records.proofs.Closing.{closed-accepted, closed-read}
 use Rattle.call.specs.Face.{surfaceOf, surfaceIn, uPeriodIn, vPeriodIn, loopsIn, measuredIn, isWrapping, wrapping, settingIn, givenIn}

@@ -25,7 +25,7 @@ use Rattle.surfaces.proofs.surface.Points.{Sizes, point-in}
 use Rattle.full_domain.specs.Boundary.{clamped, stepsOf, rungsOf, sides, sidesOf, wholeCorners, wrapOf, positionOf, usOf, vsOf, wholeArea}
 use Rattle.full_domain.proofs.boundary.Meaning.{few-corners}
 use Rattle.tables.specs.Corners.{Corner}
-use Rattle.records.specs.Result.{All, none}
+use Rattle.lists.specs.Elements.{All, none}
 use Rattle.call.specs.Face.{frameIn, surfaceIn, optionsIn}
 use Rattle.call.specs.Paths.{wholeLoop}
 use Rattle.call.proofs.Each.{all-append, all-drop, all-dropLast, all-reverse, all-map}

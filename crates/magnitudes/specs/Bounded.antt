@@ -11,7 +11,8 @@ use Rattle.numbers.specs.declared.math.Vec2.{Vec2}
 use Rattle.records.specs.Bytes.{_=?_}
 use Rattle.records.specs.Face.{kind}
 use Rattle.records.specs.Limits.{plane, cone}
-use Rattle.records.specs.Result.{Result, All, decode}
+use Rattle.records.specs.Result.{Result, decode}
+use Rattle.lists.specs.Elements.{All}
 
 -- what holds of every area, of every u, of every v and of every coordinate of a result
 pub record EachReal (area u v coordinate : Float → Type 0) (r : Result) : Type 0 where

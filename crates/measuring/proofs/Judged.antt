@@ -9,7 +9,8 @@ use Rattle.numbers.specs.Position.{same}
 use Rattle.numbers.specs.declared.math.Vec3.{Vec3}
 use Rattle.loops.specs.Rings.{endsMeet}
 use Rattle.tables.specs.Corners.{Corners, positions}
-use Rattle.bands.specs.Given.{Measured, wraps, only}
+use Rattle.bands.specs.Given.{Measured, wraps}
+use Rattle.lists.specs.Elements.{only}
 use Rattle.records.specs.Bytes.{_=?_, _<?_}
 use Rattle.records.specs.Face.{kind, loops}
 use Rattle.records.specs.Refusals.{nowhere, when, firstWhere}

@@ -9,7 +9,8 @@ use native.Mathlib.Omega.{arith}
 use lib.ListN.{length, getD, length-map}
 use Rattle.numbers.specs.declared.math.Vec3.{Vec3}
 use Rattle.lists.proofs.Elements.{getD-reverse}
-use Rattle.bands.specs.Given.{Measured, only, loopOf, givenOf}
+use Rattle.bands.specs.Given.{Measured, loopOf, givenOf}
+use Rattle.lists.specs.Elements.{only}
 use Rattle.records.specs.Refusals.{at, firstWhere}
 use Rattle.records.proofs.Search.{nowhere≢at, first-holds}
 use Rattle.call.specs.Face.{measuredIn, isWrapping, wrapping, givenIn}

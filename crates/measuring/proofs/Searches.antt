@@ -20,7 +20,8 @@ use Rattle.lists.proofs.Pieces.{length-pieces}
 use Rattle.loops.specs.Rings.{endsMeet}
 use Rattle.loops.specs.Steps.{lastOf}
 use Rattle.lists.specs.Pieces.{pieces}
-use Rattle.bands.specs.Given.{wraps, only}
+use Rattle.bands.specs.Given.{wraps}
+use Rattle.lists.specs.Elements.{only}
 use Rattle.records.specs.Refusals.{Place, nowhere, at, firstWhere}
 use Rattle.records.proofs.Search.{Seeking, seek-found, seek-end}
 use Rattle.measuring.specs.Refusals.{wrapsAt, openAt, openAmong, wrappingOf, lastWhere, oneAmong, manyAmong, openKind}

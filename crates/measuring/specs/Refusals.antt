@@ -8,7 +8,8 @@ use Rattle.numbers.specs.Position.{same}
 use Rattle.numbers.specs.declared.math.Vec3.{Vec3}
 use Rattle.tables.specs.Corners.{Corners, positions}
 use Rattle.loops.specs.Rings.{endsMeet}
-use Rattle.bands.specs.Given.{wraps, only}
+use Rattle.bands.specs.Given.{wraps}
+use Rattle.lists.specs.Elements.{only}
 use Rattle.records.specs.Bytes.{_<?_, _≤?_, _=?_}
 use Rattle.records.specs.Limits.{cone}
 use Rattle.records.specs.Refusals.{Place, nowhere, at, when, firstWhere}

@@ -11,13 +11,14 @@ use lib.Ieee.Bits.{ofBits-fits}
 use borrow.Author.Tests.{ltb-false, eqb-true, le-ltb, eq-eqb, not-false}
 use Rattle.numbers.specs.declared.math.Vec2.{Vec2}
 use Rattle.numbers.specs.declared.math.Vec3.{Vec3}
-use Rattle.records.specs.Bytes.{_<?_, u16At, numberAt, realAt, uvAt, xyzAt, rowAt, sum}
+use Rattle.records.specs.Bytes.{_<?_, u16At, numberAt, realAt, uvAt, xyzAt, rowAt}
+use Rattle.lists.specs.Elements.{sum, All, none}
 use Rattle.records.specs.Face.{headerSize, headReals, version, kind, loops, sense, segments, count, counts, start, points, reals, needed, realPlace, parameters, positions}
 use Rattle.records.specs.declared.limits.Limits.{Limits}
 use Rattle.records.specs.Limits.{minPoints, Range, _to_, holds, uRange, vRange, xyzRange, range}
 use Rattle.records.specs.Refusals.{nowhere, at, firstFrom, firstWhere, passes, verdict, recordConditions, wrongByte, wrongHeader, tooManyLoops, endsInCounts, tooFewPoints, tooManyPoints, wrongLength, badReal, firstBadReal}
 use Rattle.records.specs.Accepted.{Accepted}
-use Rattle.records.specs.Result.{All, none, Fits, FitsUv, FitsXyz}
+use Rattle.records.specs.Result.{Fits, FitsUv, FitsXyz}
 use Rattle.records.proofs.Search.{nowhere≢at, when-fails, first-fails}
 use Rattle.records.proofs.Refused.{verdict-passes}
 use Rattle.records.proofs.Rows.{all-rowAt}

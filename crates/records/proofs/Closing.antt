@@ -6,7 +6,7 @@ use Prim.Native.Nat.{ℕ, zero, suc, _+_, _≤_}
 use native.Mathlib.Omega.{arith}
 use lib.ListN.{length, drop, length-append, length-drop}
 use borrow.Author.Tests.{ltb-false}
-use Rattle.records.specs.Bytes.{sum}
+use Rattle.lists.specs.Elements.{sum}
 use Rattle.records.specs.declared.limits.Limits.{Limits}
 use Rattle.records.specs.Refusals.{nowhere, Condition, conditions, recordConditions, tooFewLent, NoneHolds}
 use Rattle.records.specs.Accepted.{Accepted}

@@ -7,8 +7,8 @@ use lib.Seq.{take-at, drop-at}
 use Rattle.lists.specs.Pieces.{pieces}
 use Rattle.numbers.specs.declared.math.Vec2.{Vec2}
 use Rattle.numbers.specs.declared.math.Vec3.{Vec3}
-use Rattle.records.specs.Bytes.{sum}
-use Rattle.records.specs.Result.{All, Short, Fits, FitsUv, FitsXyz, Writable, Loop, cornersOf, countOf, areaOf, resultOf, loopParametersOf, loopPositionsOf}
+use Rattle.lists.specs.Elements.{sum, All}
+use Rattle.records.specs.Result.{Short, Fits, FitsUv, FitsXyz, Writable, Loop, cornersOf, countOf, areaOf, resultOf, loopParametersOf, loopPositionsOf}
 
 module _ {C : Type 0} where
   pub sum-counts : (ls : List (Loop C)) → sum (map countOf ls) ≡ length (cornersOf ls)

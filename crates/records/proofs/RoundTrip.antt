@@ -7,10 +7,11 @@ use lib.ListN.{length, take, length-append}
 use lib.Seq.{take-at, drop-append-seam}
 use lib.Ieee.{binary64, ofBits, toBits}
 use lib.Ieee.Bits.{ofBits-toBits, toBits-lt}
-use Rattle.records.specs.Bytes.{number, numberAt, u16At, realAt, uvAt, xyzAt, rowAt, bytes, u16, real, uv, xyz, row, sum}
+use Rattle.records.specs.Bytes.{number, numberAt, u16At, realAt, uvAt, xyzAt, rowAt, bytes, u16, real, uv, xyz, row}
+use Rattle.lists.specs.Elements.{sum, All, none, and}
 use Rattle.records.specs.declared.limits.Limits.{Limits}
 use Rattle.records.specs.Encodable.{Encodable, mostCorners}
-use Rattle.records.specs.Result.{Result, encode, resultLength, All, none, and, Short, Fits, FitsUv, FitsXyz, Writable, holesIn, loopsIn, countsIn, cornersIn, decode}
+use Rattle.records.specs.Result.{Result, encode, resultLength, Short, Fits, FitsUv, FitsXyz, Writable, holesIn, loopsIn, countsIn, cornersIn, decode}
 
 -- ---- one number
 

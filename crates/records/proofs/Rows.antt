@@ -5,7 +5,7 @@ use Prim.Native.Nat.{ℕ, zero, suc, _+_, _*_, _<_}
 use native.Mathlib.Omega.{arith}
 use lib.ListN.{length, getD}
 use Rattle.records.specs.Bytes.{rowAt}
-use Rattle.records.specs.Result.{All, none, and}
+use Rattle.lists.specs.Elements.{All, none, and}
 
 module _ {A : Type 0} (one : List ℕ → ℕ → A) (w : ℕ) (s : List ℕ) where
   pub length-rowAt : (p n : ℕ) → length (rowAt one w s p n) ≡ n

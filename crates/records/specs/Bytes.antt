@@ -74,9 +74,3 @@ xyz p = real (p .x) ++ (real (p .y) ++ real (p .z))
 unfoldable pub row : {A : Type 0} → (A → List ℕ) → List A → List ℕ
 row one [] = []
 row one (a ∷ l) = one a ++ row one l
-
--- ---- counts
-
-unfoldable pub sum : List ℕ → ℕ
-sum [] = 0
-sum (n ∷ ns) = n + sum ns

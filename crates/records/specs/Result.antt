@@ -8,7 +8,8 @@ use lib.Ieee.{Float, binary64, fits}
 use Rattle.lists.specs.Pieces.{pieces}
 use Rattle.numbers.specs.declared.math.Vec2.{Vec2}
 use Rattle.numbers.specs.declared.math.Vec3.{Vec3}
-use Rattle.records.specs.Bytes.{byteAt, u16At, realAt, uvAt, xyzAt, rowAt, u16, real, uv, xyz, row, sum}
+use Rattle.records.specs.Bytes.{byteAt, u16At, realAt, uvAt, xyzAt, rowAt, u16, real, uv, xyz, row}
+use Rattle.lists.specs.Elements.{sum, All}
 
 -- A closed face: its path (0 closed, 1 wrapped, 2 whole surface); the corner count and the area of the outer loop and of each hole; "two parallel arrays over all corners".
 pub record Result : Type 0 where
@@ -30,10 +31,6 @@ abbrev pub resultLength : ℕ → ℕ → ℕ
 resultLength holes corners = 4 + 10 * (holes + 1) + 40 * corners
 
 -- ---- what a record can hold
-
-pub data All {A : Type 0} (P : A → Type 0) : List A → Type 0 where
-  none : All P []
-  and : {a : A} {l : List A} → P a → All P l → All P (a ∷ l)
 
 abbrev pub Short : ℕ → Type 0
 Short n = n < 65536

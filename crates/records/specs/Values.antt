@@ -5,7 +5,8 @@ use mathlib.Core.List.{List, [], _∷_, _++_}
 use Prim.Native.Nat.{ℕ, _+_, _-_}
 use lib.ListN.{length, set, take}
 use lib.Ieee.{Float, binary64, round, ofBits, toBits, odd, ofFields, le, lt, eq, neg}
-use Rattle.records.specs.Bytes.{number, numberAt, realAt, uvAt, xyzAt, rowAt, bytes, real, uv, xyz, row, sum}
+use Rattle.records.specs.Bytes.{number, numberAt, realAt, uvAt, xyzAt, rowAt, bytes, real, uv, xyz, row}
+use Rattle.lists.specs.Elements.{sum}
 use Rattle.records.specs.Face.{start}
 use Rattle.records.specs.Limits.{version1, 10^9, 10^6, 10^3, 64·0, 1·5, 0·001, 10^-6, 0·0, plane, cylinder, cone, sphere, torus, holds, headRange, radius, second, uvRange, uRange, vRange, range}
 use Rattle.records.specs.Refusals.{Verdict, passes, refuses, Condition, conditions, verdict, firstFrom, tooFewLent, wrongByte, wrongHeader, tooManyLoops, endsInCounts, tooFewPoints, tooManyPoints, wrongLength, badReal, firstBadReal}

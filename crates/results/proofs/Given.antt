@@ -7,8 +7,9 @@ use lib.ListN.{length, take}
 use lib.Ieee.{Float}
 use borrow.Author.Tests.{ltb-true, leb-true}
 use Rattle.numbers.specs.declared.math.Vec3.{Vec3}
-use Rattle.records.specs.Bytes.{_<?_, _≤?_, sum}
-use Rattle.records.specs.Result.{encode, decode, All, none, and, Short, Fits, FitsUv, FitsXyz, Writable, Loop, cornersOf, countOf, areaOf, resultOf}
+use Rattle.records.specs.Bytes.{_<?_, _≤?_}
+use Rattle.lists.specs.Elements.{sum, All, none, and}
+use Rattle.records.specs.Result.{encode, decode, Short, Fits, FitsUv, FitsXyz, Writable, Loop, cornersOf, countOf, areaOf, resultOf}
 use Rattle.records.specs.Lent.{filledIf}
 use Rattle.tables.specs.Corners.{Corner, Corners, uvOf, positions}
 use Rattle.tables.specs.Rows.{rows}

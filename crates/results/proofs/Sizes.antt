@@ -8,7 +8,7 @@ use native.Mathlib.Omega.{arith}
 use lib.ListN.{length, getD, drop, drop-of-length-le}
 use lib.Seq.{drop-cons}
 use borrow.Author.Tests.{lt-ltb, le-ltb, le-leb, lt-leb}
-use Rattle.records.specs.Bytes.{sum}
+use Rattle.lists.specs.Elements.{sum}
 use Rattle.results.specs.declared.Size.the-variants.{Takes, TooLarge}
 use Rattle.results.specs.Written.{allShort, headerHolds, sizeOf}
 

@@ -10,7 +10,8 @@ use lib.Ieee.{Float}
 use Rattle.numbers.specs.declared.math.Vec3.{Vec3}
 use borrow.Author.Tests.{le-leb, lt-leb, leb-true}
 use Rattle.lists.proofs.Stores.{sets-append}
-use Rattle.records.specs.Bytes.{_≤?_, u16, real, uv, xyz, row, sum}
+use Rattle.records.specs.Bytes.{_≤?_, u16, real, uv, xyz, row}
+use Rattle.lists.specs.Elements.{sum}
 use Rattle.records.specs.Result.{encode}
 use Rattle.records.specs.Lent.{front, filledIf}
 use Rattle.records.proofs.RoundTrip.{codes-u16, codes-real, codes-uv, codes-xyz, length-row}

@@ -6,7 +6,8 @@ use Prim.Native.Nat.{ℕ, _-_, _≤_}
 use lib.ListN.{length, take, drop}
 use lib.Ieee.{Float}
 use Rattle.numbers.specs.declared.math.Vec3.{Vec3}
-use Rattle.records.specs.Bytes.{_<?_, _≤?_, real, row, sum}
+use Rattle.records.specs.Bytes.{_<?_, _≤?_, real, row}
+use Rattle.lists.specs.Elements.{sum}
 use Rattle.records.specs.Result.{Result, encode, resultLength}
 use Rattle.records.specs.Lent.{filledIf}
 use Rattle.tables.specs.Corners.{Corner, Corners, uvOf, positions}

@@ -35,10 +35,11 @@ use Rattle.tables.specs.Moves.{unlessZero}
 use Rattle.rings.specs.Turns.{turnedUnless, turnedOnto, alignAt}
 use Rattle.seam.specs.Gap.{insert, sorted, passed, gapAlong, widestGap, usable}
 use Rattle.bands.specs.Band.{firstIsLower, lift, joined, lowerFirst, lowerRing, upperRing, stripOf, outer, holes}
-use Rattle.bands.specs.Given.{only, givenOf}
+use Rattle.bands.specs.Given.{givenOf}
+use Rattle.lists.specs.Elements.{only, sum}
 use Rattle.bands.specs.Rings.{rising, shifted, laid, onto, onStrip, anyStraddles, acrossSeam, gapOf, recut, cutAnew, hasStrip, hasGap, reseam, trial, started}
 use Rattle.bands.specs.Strip.{ladder, heights, strip}
-use Rattle.records.specs.Bytes.{number, numberAt, realAt, uvAt, xyzAt, rowAt, bytes, real, uv, xyz, row, sum}
+use Rattle.records.specs.Bytes.{number, numberAt, realAt, uvAt, xyzAt, rowAt, bytes, real, uv, xyz, row}
 use Rattle.records.specs.Call as Call
 use Rattle.records.specs.Call.{closed}
 use Rattle.records.specs.Face.{start, counts, parameters, positions, loopPositions, cornersIn}
