@@ -147,8 +147,8 @@ unsafe extern "C" {
     fn compared_net_wrap(t: *const f64, t_len: usize, period: f64) -> i32;
     fn compared_signed_area(t: *const f64, t_len: usize) -> f64;
     fn compared_mean_v(t: *const f64, t_len: usize) -> f64;
-    fn compared_least(xs: *const f64, xs_len: usize) -> f64;
-    fn compared_greatest(xs: *const f64, xs_len: usize) -> f64;
+    fn compared_least(t: *const f64, t_len: usize) -> f64;
+    fn compared_greatest(t: *const f64, t_len: usize) -> f64;
     fn compared_closed_region(
         t: *const f64,
         t_len: usize,
@@ -288,12 +288,14 @@ pub fn mean_v(corners: &[f64]) -> f64 {
     unsafe { compared_mean_v(corners.as_ptr(), corners.len()) }
 }
 
-pub fn least(xs: &[f64]) -> f64 {
-    unsafe { compared_least(xs.as_ptr(), xs.len()) }
+/// The least u of a loop's corners.
+pub fn least(corners: &[f64]) -> f64 {
+    unsafe { compared_least(corners.as_ptr(), corners.len()) }
 }
 
-pub fn greatest(xs: &[f64]) -> f64 {
-    unsafe { compared_greatest(xs.as_ptr(), xs.len()) }
+/// The greatest.
+pub fn greatest(corners: &[f64]) -> f64 {
+    unsafe { compared_greatest(corners.as_ptr(), corners.len()) }
 }
 
 /// Writes the boundary of a whole surface to the first rows, and answers its area.

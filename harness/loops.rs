@@ -121,7 +121,7 @@ fn spans(run: &Run) {
     for _ in 0..run.times * CASES {
         let xs = reals(&mut check.random);
         let (lo, hi) = span(xs.iter().copied());
-        check.case(&xs, &[compared::least(&xs), compared::greatest(&xs)], &[lo, hi]);
+        check.case(&xs, &[compared::least(&rows(&xs, &[])), compared::greatest(&rows(&xs, &[]))], &[lo, hi]);
     }
     check.done();
 }

@@ -1,7 +1,7 @@
 -- The two rings and the holes of a face, taken from its loops. The sentences are those of 01, "Bands".
 use Prim.Native.Nat.{zero, suc}
-use mathlib.Core.Bool.{Bool, true, false, cond, not}
-use mathlib.Core.List.{List, [], _∷_, map, reverse}
+use mathlib.Core.Bool.{Bool, true, false, not}
+use mathlib.Core.List.{List, [], map, reverse}
 use lib.IntN.{ℤ, pos, negsuc}
 use lib.ListN.{getD}
 use Rattle.lists.specs.Elements.{only}

@@ -13,7 +13,7 @@ use Rattle.numbers.specs.Order.{absOf}
 use Rattle.numbers.specs.Round.{roundAway, floorOf}
 use Rattle.loops.specs.Mean.{meanOf, sumOf}
 use Rattle.loops.specs.Span.{leastOf, greatestOf}
-use Rattle.loops.specs.Wrap.{netWrap, turnsCounted}
+use Rattle.loops.specs.Wrap.{netWrap, wrapEvery, turnsCounted}
 use Rattle.tables.specs.Corners.{Corner, Corners, us, positions}
 use Rattle.rings.specs.Choices.{leastU, greatestU, firstPast, firstOpenPast, stripShift, straddles, nearest, firstLeast, firstFrom, serve, beginsBackward, standsAtTheCut}
 use Rattle.tables.specs.Moves.{unlessZero}
@@ -329,7 +329,7 @@ record Values : Type 0 where
   -- "If no open point reaches the cut, or the first one does, the ring stays", its repeated last point as it was given. Here it is the later ring.
   first-at-cut : reseam r4 (laid r4 (drilled five atCut)) .later ≡ atCut
   none-at-cut : reseam r4 (laid r4 (drilled five beforeCut)) .later ≡ beforeCut
-  both-wrap : (netWrap (us atCut) r4 ≡ pos 1) × (netWrap (us beforeCut) r4 ≡ pos 1)
+  both-wrap : (netWrap (Every r4) (us atCut) ≡ pos 1) × (netWrap (Every r4) (us beforeCut) ≡ pos 1)
   -- the first ring is turned all the same
   other-turned : reseam r4 (laid r4 (drilled five beforeCut)) .first
       ≡ corner r2 r1 22 ∷ corner r3 r1 23 ∷ corner r4 r1 20 ∷ corner r5 r1 21 ∷ corner r6 r1 22 ∷ []
@@ -343,7 +343,7 @@ record Values : Type 0 where
   three-outer : positions (outer plain (drilled threeUp threeDown)) ≡ 11 ∷ 10 ∷ 11 ∷ 40 ∷ 50 ∷ 21 ∷ 20 ∷ 21 ∷ 50 ∷ 40 ∷ []
   -- Of rings that wrap twice, what comes round is one period up, and the point that closes has the position and v of the new first one, one period up in u. The
   -- first ring then begins backward, and so it is turned once more, to begin at 20.
-  wraps-twice : netWrap (us twiceUp) r4 ≡ pos 2
+  wraps-twice : netWrap (Every r4) (us twiceUp) ≡ pos 2
   twice-cut : reseam r4 (laid r4 (drilled twiceUp twiceDown))
       ≡ record {
         first = corner r5 r3 22 ∷ corner r4 r1 20 ∷ corner r5 r2 21 ∷ corner r9 r3 22 ∷ [];
@@ -384,7 +384,7 @@ record Values : Type 0 where
   against-sense-lifted : stripOf (torus false) (rising-at r1 r2) ≡ up-from-falling r2 r5
 
 values : Values
-unfolding stripOf strip heights ladder lowerRing upperRing lowerFirst firstIsLower lift joined holes laid rising shifted leastU greatestU reseam hasStrip acrossSeam onStrip anyStraddles gapOf hasGap cutAnew recut firstOpenPast firstPast widestGap gapAlong sorted insert passed usable started start firstServing firstFrom serves serve beginsBackward standsAtTheCut trial turnedUnless alignCuts alignAt turnedOnto nearest firstLeast slideToCut unlessZero turned begun closed leastOf greatestOf meanOf sumOf absOf roundAway plain givenOf only lowLoop highLoop five four drilled atCut beforeCut threeUp threeDown twiceUp twiceDown netWrap turnsCounted toSigned further reaches slot bored pierced late unserved thirds torus rising-at up-from-rising up-from-falling onto stripShift straddles floorOf add sub mul div neg lt le eq ne ofBits ofInt inner rungs endedOn keptDivisions keptAfter near slackOf divisionsFrom division outer dropMerging dropSuccessive dropTrailing keptFrom cutBack
+unfolding stripOf strip heights ladder lowerRing upperRing lowerFirst firstIsLower lift joined holes laid rising shifted leastU greatestU reseam hasStrip acrossSeam onStrip anyStraddles gapOf hasGap cutAnew recut firstOpenPast firstPast widestGap gapAlong sorted insert passed usable started start firstServing firstFrom serves serve beginsBackward standsAtTheCut trial turnedUnless alignCuts alignAt turnedOnto nearest firstLeast slideToCut unlessZero turned begun closed leastOf greatestOf meanOf sumOf absOf roundAway plain givenOf only lowLoop highLoop five four drilled atCut beforeCut threeUp threeDown twiceUp twiceDown wrapEvery turnsCounted toSigned further reaches slot bored pierced late unserved thirds torus rising-at up-from-rising up-from-falling onto stripShift straddles floorOf add sub mul div neg lt le eq ne ofBits ofInt inner rungs endedOn keptDivisions keptAfter near slackOf divisionsFrom division outer dropMerging dropSuccessive dropTrailing keptFrom cutBack
 values = record {
   one-branch = refl;
   not-past = refl;

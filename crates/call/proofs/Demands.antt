@@ -38,7 +38,8 @@ use Rattle.records.proofs.Search.{nowhere≢at, when-fails, first-fails}
 use Rattle.call.specs.Face.{measuredIn, isWrapping, wrapping, settingIn, givenIn}
 use Rattle.call.specs.Demands.{Complete, Demand1, outerPositions, holePositions, BandDemand}
 use Rattle.call.specs.Judge.{allConditions, result, judge}
-use Rattle.call.specs.Later.{laterConditions, loopIn, isOpen, openRing, oneRing, manyRings, stripPoints, longStrip}
+use Rattle.call.specs.Later.{laterConditions, oneRing, manyRings, stripPoints, longStrip}
+use Rattle.call.proofs.Judged.{loopIn, isOpen, open-ring-is, one-ring-is, many-rings-is}
 use Rattle.call.specs.Paths.{ResultLoop, signedArea, loopsFrom, wrappedLoops, uvOf, xyzOf, pathIn, resultLoops, resultIn}
 use Rattle.call.proofs.Each.{all-in, all-at, all-reverse, all-only}
 use Rattle.call.proofs.Loops.{measured-many, loops-positions, measured-some, loops-wrap}
@@ -57,8 +58,7 @@ bare = record { corners = []; wrap = pos 0 }
 
 module _ (s : List ℕ) (not-9 : oneRing s ≡ nowhere) (not-10 : manyRings s ≡ nowhere) where
   few-wrap : wrapping s ≤ 2
-  unfolding manyRings
-  few-wrap = ltb-false 2 (wrapping s) (when-fails _ (wrapping s) .0 not-10)
+  few-wrap = ltb-false 2 (wrapping s) (when-fails _ (wrapping s) .0 (sym (many-rings-is s) ∙ not-10))
 
   -- where no loop is found that wraps, none does
   none-wraps : firstWhere (loops s) (λ k. isWrapping (loopIn s k)) ≡ nowhere → wrapping s ≡ 0
@@ -68,8 +68,7 @@ module _ (s : List ℕ) (not-9 : oneRing s ≡ nowhere) (not-10 : manyRings s �
       ap length (only-none isWrapping (all-at (measuredIn s) bare (λ k h. first-fails (λ i. isWrapping (loopIn s i)) (loops s) .0 e k (omega arith))))
 
   not-one : wrapping s ≡ 1 → ⊥
-  unfolding oneRing
-  not-one e = let z = none-wraps (ap (λ (t : Bool). cond t (firstWhere (loops s) (λ k. isWrapping (loopIn s k))) nowhere) (sym (eq-eqb (wrapping s) 1 e)) ∙ not-9) in omega arith
+  not-one e = let z = none-wraps (ap (λ (t : Bool). cond t (firstWhere (loops s) (λ k. isWrapping (loopIn s k))) nowhere) (sym (eq-eqb (wrapping s) 1 e)) ∙ sym (one-ring-is s) ∙ not-9) in omega arith
 
   -- either none wraps or two do
   pub two-wrap : (wrapping s ≡ 0 → ⊥) → wrapping s ≡ 2
@@ -85,12 +84,12 @@ module _ (L : Limits) (lent : ℕ) (s : List ℕ) (none : NoneHolds (conditions 
   -- ---- refusal 8: a loop that wraps ends where it begins
 
   loops-meet : All (λ (m : Measured Vec3). isWrapping m ≡ true → endsMeet same (positions (m .corners)) ≡ true) (measuredIn s)
-  unfolding openRing loopIn
+  unfolding loopIn
   loops-meet =
       let m = measured-many s in
       all-at (measuredIn s) bare (λ k h e.
       let open-not : isOpen (loopIn s k) ≡ false =
-      ap (λ (t : Bool). t && isOpen (loopIn s k)) (sym e) ∙ first-fails (λ i. isWrapping (loopIn s i) && isOpen (loopIn s i)) (loops s) .0 (none 8) k (omega arith) in
+      ap (λ (t : Bool). t && isOpen (loopIn s k)) (sym e) ∙ first-fails (λ i. isWrapping (loopIn s i) && isOpen (loopIn s i)) (loops s) .0 (sym (open-ring-is s) ∙ none 8) k (omega arith) in
       not-false _ open-not)
 
   -- ---- what demand 3 asks of the two rings

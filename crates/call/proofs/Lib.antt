@@ -3,6 +3,7 @@ pub mod Rings
 pub mod Doubles
 pub mod Sizes
 pub mod Loops
+pub mod Judged
 pub mod Written
 pub mod Demands
 pub mod Plain

@@ -13,8 +13,8 @@ use Rattle.surfaces.specs.Domains.{uPeriod}
 use Rattle.lists.specs.Pieces.{pieces}
 use Rattle.lists.proofs.Maps.{map-take, map-drop}
 use Rattle.lists.proofs.Pieces.{length-pieces}
-use Rattle.loops.specs.Wrap.{netWrap}
-use Rattle.tables.specs.Corners.{Corner, Corners, positions, cornersFrom}
+use Rattle.loops.specs.Wrap.{netWrap, wrapEvery}
+use Rattle.tables.specs.Corners.{Corner, Corners, positions, cornersFrom, us}
 use Rattle.bands.specs.Given.{Measured, wraps, givenOf}
 use Rattle.lists.specs.Elements.{only, sum, All, none, and}
 use Rattle.records.specs.Bytes.{uvAt, xyzAt}
@@ -24,7 +24,7 @@ use Rattle.records.specs.Result.{Fits, FitsXyz}
 use Rattle.records.proofs.Accepted.{parameters-fit, positions-fit}
 use Rattle.records.proofs.Columns.{length-counts}
 use Rattle.records.proofs.Rows.{length-rowAt}
-use Rattle.call.specs.Face.{surfaceIn, loopsIn, wrapOf, measuredIn, isWrapping, wrapping, givenIn}
+use Rattle.call.specs.Face.{surfaceIn, loopsIn, measuredIn, isWrapping, wrapping, givenIn}
 use Rattle.call.proofs.Doubles.{FitsCorner, FitsCorners}
 use Rattle.call.proofs.Each.{all-getD, all-take, all-drop, all-reverse, all-map, all-only}
 use Rattle.call.proofs.Rings.{EachGiven}
@@ -60,8 +60,8 @@ positions-of (u ∷ us) (v ∷ vs) (p ∷ ps) e f = ap (λ (l : List _). p ∷ l
 
 -- ---- a loop that wraps has points
 
-pub wrapping-some : (p : Period) (r : Corners Vec3) → wraps (wrapOf p r) ≡ true → 0 < length r
-unfolding netWrap
+pub wrapping-some : (p : Period) (r : Corners Vec3) → wraps (netWrap p (us r)) ≡ true → 0 < length r
+unfolding wrapEvery
 wrapping-some None r h = absurd (true≢false (sym h))
 wrapping-some (Every p) [] h = absurd (true≢false (sym h))
 wrapping-some (Every p) (c ∷ r) h = omega arith
@@ -106,7 +106,7 @@ module _ (s : List ℕ) where
   -- ---- with their wraps
 
   abbrev mark : Corners Vec3 → Measured Vec3
-  mark loop = record { corners = loop; wrap = wrapOf (uPeriod (surfaceIn s)) loop }
+  mark loop = record { corners = loop; wrap = netWrap (uPeriod (surfaceIn s)) (us loop) }
 
   pub measured-many : length (measuredIn s) ≡ loops s
   unfolding measuredIn

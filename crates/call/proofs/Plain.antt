@@ -16,7 +16,8 @@ use Rattle.records.specs.Refusals.{nowhere, at, firstWhere}
 use Rattle.records.proofs.Refused.{Says, below, refuted, when-exactly, first-exactly}
 use Rattle.records.proofs.Search.{nowhere≢at}
 use Rattle.call.specs.Face.{isWrapping, wrapping}
-use Rattle.call.specs.Later.{loopIn, isOpen, openRing, oneRing, manyRings, openSurface, stripPoints, longStrip}
+use Rattle.call.specs.Later.{openRing, oneRing, manyRings, openSurface, openKind, stripPoints, longStrip}
+use Rattle.call.proofs.Judged.{loopIn, isOpen, open-ring-is, one-ring-is, many-rings-is}
 
 -- ---- tests
 
@@ -54,16 +55,15 @@ module _ (s : List ℕ) where
 
   module _ (p : ℕ) where
     pub refusal-8 : openRing s ≡ at p ↔ (p < loops s) × (Wraps p × Open p) × ((j : ℕ) → j < p → Stays j ⊎ Meets j)
-    unfolding openRing
     refusal-8 =
-        first-exactly (λ k. isWrapping (loopIn s k) && isOpen (loopIn s k))
+        rw (open-ring-is s)
+        (first-exactly (λ k. isWrapping (loopIn s k) && isOpen (loopIn s k))
         (λ k. both (isWrapping (loopIn s k)) (isOpen (loopIn s k)) (itself (isWrapping (loopIn s k))) (refuted (endsMeet same (positions (loopIn s k .corners)))))
-        (loops s) p
+        (loops s) p)
 
     -- the loop is the first that wraps, and so the one
     pub refusal-9 : oneRing s ≡ at p ↔ (wrapping s ≡ 1) × ((p < loops s) × Wraps p × ((j : ℕ) → j < p → Stays j))
-    unfolding oneRing
-    refusal-9 = (go→ (wrapping s =? 1) refl, λ r. rw (eq-eqb (wrapping s) 1 (r .0)) (found .1 (r .1)))
+    refusal-9 = rw (one-ring-is s) (go→ (wrapping s =? 1) refl, λ r. rw (eq-eqb (wrapping s) 1 (r .0)) (found .1 (r .1)))
       where
         found : firstWhere (loops s) (λ k. isWrapping (loopIn s k)) ≡ at p ↔ (p < loops s) × Wraps p × ((j : ℕ) → j < p → Stays j)
         found = first-exactly (λ k. isWrapping (loopIn s k)) (λ k. itself (isWrapping (loopIn s k))) (loops s) p
@@ -74,11 +74,10 @@ module _ (s : List ℕ) where
         go→ false e h = absurd (nowhere≢at h)
 
     pub refusal-10 : manyRings s ≡ at p ↔ (2 < wrapping s) × (p ≡ wrapping s)
-    unfolding manyRings
-    refusal-10 = when-exactly _ (below 2 (wrapping s)) (wrapping s) p
+    refusal-10 = rw (many-rings-is s) (when-exactly _ (below 2 (wrapping s)) (wrapping s) p)
 
     pub refusal-11 : openSurface s ≡ at p ↔ ((loops s ≡ 0) × (kind s ≤ cone)) × (p ≡ 0)
-    unfolding openSurface
+    unfolding openSurface openKind
     refusal-11 = when-exactly _ (both (loops s =? 0) (kind s ≤? cone) (equal (loops s) 0) (atMost (kind s) cone)) 0 p
 
     pub refusal-12 : (L : Limits) → longStrip L s ≡ at p ↔ ((wrapping s ≡ 2) × (L .strip < stripPoints s)) × (p ≡ stripPoints s)

@@ -2,15 +2,13 @@
 use Prim.Native.Nat.{ℕ, _+_}
 use mathlib.Core.Bool.{Bool, cond}
 use mathlib.Core.List.{List, map}
-use lib.IntN.{ℤ, pos}
+use lib.IntN.{ℤ}
 use lib.ListN.{length}
 use lib.Ieee.{Float}
 use Rattle.numbers.specs.Frames.{frameOf}
 use Rattle.numbers.specs.declared.math.Vec3.{Vec3}
 use Rattle.numbers.specs.declared.math.Frame.{Frame}
 use Rattle.surfaces.specs.declared.options.Resolved.{Resolved}
-use Rattle.surfaces.specs.declared.surface.Period.{Period}
-use Rattle.surfaces.specs.declared.surface.Period.the-variants.{Every, None}
 use Rattle.surfaces.specs.declared.surface.Surface.{Surface}
 use Rattle.surfaces.specs.declared.surface.Surface.the-variants.{Plane, Cylinder, Cone, Sphere, Torus}
 use Rattle.surfaces.specs.Domains.{uPeriod, vPeriod, periodLength}
@@ -67,13 +65,13 @@ vPeriodIn s = periodLength (vPeriod (surfaceIn s))
 unfoldable pub loopsIn : List ℕ → List (Corners Vec3)
 loopsIn s = pieces (counts s) (cornersIn s)
 
--- `net_wrap` of a loop; where u does not come round none wraps
-abbrev pub wrapOf : Period → Corners Vec3 → ℤ
-wrapOf None loop = pos 0
-wrapOf (Every p) loop = netWrap (us loop) p
-
+-- each with its wrap, by `net_wrap`
 unfoldable pub measuredIn : List ℕ → List (Measured Vec3)
-measuredIn s = map (λ (loop : Corners Vec3). record { corners = loop; wrap = wrapOf (uPeriod (surfaceIn s)) loop }) (loopsIn s)
+measuredIn s = map (λ (loop : Corners Vec3). record { corners = loop; wrap = netWrap (uPeriod (surfaceIn s)) (us loop) }) (loopsIn s)
+
+-- the wraps alone, one for each loop
+abbrev pub wrapsIn : List ℕ → List ℤ
+wrapsIn s = map (λ (m : Measured Vec3). m .wrap) (measuredIn s)
 
 abbrev pub isWrapping : Measured Vec3 → Bool
 isWrapping m = wraps (m .wrap)

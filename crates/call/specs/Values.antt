@@ -7,7 +7,7 @@ use Prim.Native.Nat.{ℕ}
 use lib.IntN.{pos}
 use lib.ListN.{getD, set}
 use lib.Ieee.{Float, binary64, ofBits, toBits, odd, ofFields, le, lt, eq, ne, neg, add, sub, mul, div, ofInt, toSigned, toUnsigned}
-use Rattle.numbers.specs.Constants.{one, H, PI, TAU}
+use Rattle.numbers.specs.Constants.{one, H, PI, TAU, 10^-3}
 use Rattle.numbers.specs.Order.{absOf}
 use Rattle.numbers.specs.Position.{same}
 use Rattle.numbers.specs.Round.{roundAway, floorOf, ceilOf}
@@ -29,7 +29,7 @@ use Rattle.loops.specs.Repeats.{dropMerging, dropSuccessive, dropTrailing, kept
 use Rattle.loops.specs.Rings.{endsMeet, begun, closed as ringClosed, turned}
 use Rattle.loops.specs.Span.{leastOf, greatestOf, middleOf}
 use Rattle.loops.specs.Steps.{net, netOf, count, stepsRound, stepsAlong}
-use Rattle.loops.specs.Wrap.{netWrap, turnsCounted}
+use Rattle.loops.specs.Wrap.{wrapEvery, turnsCounted}
 use Rattle.closed_region.specs.Outer.{outerOf, slackOf, encloses, every, passing, enclosesOther, enclosesOthers, enclosingOne, lastLargest, holesOf}
 use Rattle.closed_region.specs.Rephase.{shiftOf, moved, rephased}
 use Rattle.rings.specs.Choices.{leastU, greatestU, stripShift, straddles, nearest, firstLeast, firstFrom as startFrom, serve, beginsBackward, standsAtTheCut}
@@ -46,13 +46,13 @@ use Rattle.records.specs.Bytes.{number, numberAt, realAt, uvAt, xyzAt, rowAt, b
 use Rattle.records.specs.Call as Call
 use Rattle.records.specs.Call.{refused, closed, code, value}
 use Rattle.records.specs.Face.{start, counts, parameters, positions, cornersIn}
-use Rattle.records.specs.Limits.{0·0, 0·001, 1·5, 10^6, holds, headRange, radius, second, uvRange, uRange, vRange, range}
+use Rattle.records.specs.Limits.{0·0, 1·5, 10^6, holds, headRange, radius, second, uvRange, uRange, vRange, range}
 use Rattle.records.specs.Refusals.{passes, verdict, firstFrom, tooFewLent, wrongByte, wrongHeader, tooManyLoops, endsInCounts, tooFewPoints, tooManyPoints, wrongLength, badReal, firstBadReal}
 use Rattle.records.specs.Result.{encode, decode, countsIn, cornersIn as cornersBack, resultOf, cornersOf as together, loopPositionsOf}
 use Rattle.records.specs.Values.{triangle, written}
 use Rattle.tables.specs.Corners.{cornersFrom}
 use Rattle.call.specs.Face.{frameIn, surfaceOf, surfaceIn, optionsIn, senseIn, loopsIn, measuredIn, wrapping, settingIn, givenIn}
-use Rattle.call.specs.Later.{loopIn, openRing, oneRing, manyRings, openSurface, stripPoints, longStrip}
+use Rattle.call.specs.Later.{wrapsAt, openAt, wrappingOf, openAmong, oneAmong, manyAmong, openKind, openRing, oneRing, manyRings, openSurface, stripPoints, longStrip}
 use Rattle.call.specs.Paths.{outerNumber, outerLoop, rephasedHole, closedLoops, loopsFrom, wrappedLoops, wholeLoop, pathIn, resultLoops, resultIn}
 use Rattle.call.specs.Judge.{allConditions, judge}
 use Rattle.call.specs.Demands.{outerPositions}
@@ -164,10 +164,10 @@ bareSphere = set bareCylinder 1 3
 
 -- two rings on a sphere, at v 0 and 0.5085, at most 0.001 a step: 508 inner rungs, and 6 or 7 points in the rings
 abbrev strip1024 : List ℕ
-strip1024 = (1 ∷ 3 ∷ 2 ∷ 1 ∷ 1 ∷ 3 ∷ 0 ∷ 3 ∷ 0 ∷ []) ++ row real (head 0·001 ++ (shortUv 0·0 ++ (shortUv 0·5085 ++ (shortXyz 0·0 ++ shortXyz one))))
+strip1024 = (1 ∷ 3 ∷ 2 ∷ 1 ∷ 1 ∷ 3 ∷ 0 ∷ 3 ∷ 0 ∷ []) ++ row real (head 10^-3 ++ (shortUv 0·0 ++ (shortUv 0·5085 ++ (shortXyz 0·0 ++ shortXyz one))))
 
 abbrev strip1025 : List ℕ
-strip1025 = (1 ∷ 3 ∷ 2 ∷ 1 ∷ 1 ∷ 4 ∷ 0 ∷ 3 ∷ 0 ∷ []) ++ row real (head 0·001 ++ (risingUv 0·0 ++ (shortUv 0·5085 ++ (risingXyz 0·0 ++ shortXyz one))))
+strip1025 = (1 ∷ 3 ∷ 2 ∷ 1 ∷ 1 ∷ 4 ∷ 0 ∷ 3 ∷ 0 ∷ []) ++ row real (head 10^-3 ++ (risingUv 0·0 ++ (shortUv 0·5085 ++ (risingXyz 0·0 ++ shortXyz one))))
 
 -- ---- what is answered
 
@@ -209,7 +209,7 @@ pub record Answers : Type 0 where
   pub strip-refused : judge 61614 strip1025 ≡ refused 12 1025
 
 pub answers : Answers
-unfolding Call.judge verdict tooFewLent wrongByte wrongHeader tooManyLoops endsInCounts tooFewPoints tooManyPoints wrongLength badReal firstBadReal firstFrom number numberAt realAt start bytes real row holds headRange radius second uvRange uRange vRange range ofBits ofFields odd toBits le lt eq neg surfaceOf surfaceIn cornersFrom cornersIn loopsIn measuredIn wrapping loopIn openRing oneRing manyRings openSurface longStrip outerNumber outerLoop closedLoops pathIn resultLoops resultIn encode resultOf together uv xyz uvAt xyzAt rowAt sum counts parameters positions pieces only uPeriod vPeriod outerOf slackOf encloses every passing enclosesOther enclosesOthers enclosingOne lastLargest holesOf rephasedHole rephased moved shiftOf areaOf crossSum crossAt leastOf greatestOf middleOf absOf add sub mul div ofInt netWrap turnsCounted toSigned roundAway endsMeet same stripPoints settingIn givenIn optionsIn senseIn givenOf stripOf strip heights ladder lowerRing upperRing lowerFirst firstIsLower lift joined laid rising shifted leastU greatestU reseam hasStrip acrossSeam onStrip anyStraddles started startOf firstServing startFrom serves serve beginsBackward standsAtTheCut trial turnedUnless alignCuts alignAt turnedOnto nearest firstLeast slideToCut unlessZero turned begun ringClosed meanOf sumOf onto stripShift straddles floorOf ne inner rungs endedOn keptDivisions keptAfter near rungSlack divisionsFrom division vStepsOf outer holes dropMerging dropSuccessive dropTrailing keptFrom cutBack loopsFrom wrappedLoops segmentsOf angleStepOf sagAngle ceilOf toUnsigned wholeLoop wholeCorners sidesOf sides rungsOf stepsOf directionStepsOf domainOf sincosOf
+unfolding Call.judge verdict tooFewLent wrongByte wrongHeader tooManyLoops endsInCounts tooFewPoints tooManyPoints wrongLength badReal firstBadReal firstFrom number numberAt realAt start bytes real row holds headRange radius second uvRange uRange vRange range ofBits ofFields odd toBits le lt eq neg surfaceOf surfaceIn cornersFrom cornersIn loopsIn measuredIn wrapping wrapsAt openAt wrappingOf openAmong oneAmong manyAmong openKind openRing oneRing manyRings openSurface longStrip outerNumber outerLoop closedLoops pathIn resultLoops resultIn encode resultOf together uv xyz uvAt xyzAt rowAt sum counts parameters positions pieces only uPeriod vPeriod outerOf slackOf encloses every passing enclosesOther enclosesOthers enclosingOne lastLargest holesOf rephasedHole rephased moved shiftOf areaOf crossSum crossAt leastOf greatestOf middleOf absOf add sub mul div ofInt wrapEvery turnsCounted toSigned roundAway endsMeet same stripPoints settingIn givenIn optionsIn senseIn givenOf stripOf strip heights ladder lowerRing upperRing lowerFirst firstIsLower lift joined laid rising shifted leastU greatestU reseam hasStrip acrossSeam onStrip anyStraddles started startOf firstServing startFrom serves serve beginsBackward standsAtTheCut trial turnedUnless alignCuts alignAt turnedOnto nearest firstLeast slideToCut unlessZero turned begun ringClosed meanOf sumOf onto stripShift straddles floorOf ne inner rungs endedOn keptDivisions keptAfter near rungSlack divisionsFrom division vStepsOf outer holes dropMerging dropSuccessive dropTrailing keptFrom cutBack loopsFrom wrappedLoops segmentsOf angleStepOf sagAngle ceilOf toUnsigned wholeLoop wholeCorners sidesOf sides rungsOf stepsOf directionStepsOf domainOf sincosOf
 answers = record {
   triangle-closed = refl;
   wide-closed = refl;

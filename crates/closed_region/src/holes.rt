@@ -27,16 +27,6 @@ use tables::slices::at;
 use tables::slices::piece_end;
 use tables::slices::put;
 
-// The length of a period, and 0.0 where a parameter does not come round.
-fn length_of(period: Period) -> f64
-    ensures { λ r. ⌜ r ≡ periodLength period ⌝ }
-{
-    match period {
-        Period::Every(p) => p,
-        Period::None => 0.0,
-    }
-}
-
 // The whole periods that bring one middle nearest to another.
 pub fn hole_shift(period: f64, from: f64, to: f64) -> f64
     ensures { λ r. ⌜ r ≡ wholePeriods period from to ⌝ }
@@ -56,8 +46,8 @@ fn branch_of(t: &[f64], u: Period, v: Period) -> Branch
     Branch {
         umid: (b.ulo + b.uhi) * 0.5,
         vmid: (b.vlo + b.vhi) * 0.5,
-        uperiod: length_of(u),
-        vperiod: length_of(v),
+        uperiod: u.length(),
+        vperiod: v.length(),
     }
 }
 

@@ -88,9 +88,6 @@ front-full zero l e = omega arith
 front-full (suc n) [] e = absurd (omega arith)
 front-full (suc n) (a ∷ l) e = let h = front-full n l (omega arith) in omega arith
 
-front-there : {A : Type 0} (n : ℕ) (l w : List A) → take n l ≡ w → length w ≡ n → n ≤ length l
-front-there n l w e h = front-full n l (ap length e ∙ h)
-
 module _ (L : Limits) (encodable : Encodable L) (s : List ℕ) (few-loops : loops s ≤ L .loops) (few-points : points s ≤ L .points)
     (short-strip : (wrapping s ≡ 0 → ⊥) → stripPoints s ≤ L .strip)
     (path : Path) (path-is : pathOf path ≡ pathIn s) (counts : List ℕ) (areas t : List Float) (h : HoldsResult (resultLoops s) counts areas t)

@@ -4,6 +4,7 @@ use mathlib.Core.Bool.{Bool, cond}
 use lib.Ieee.{Float, eq}
 use Rattle.numbers.specs.Constants.{plusZero}
 use Rattle.surfaces.specs.declared.options.Resolved.{Resolved}
+use Rattle.surfaces.specs.Domains.{periodLength}
 use Rattle.surfaces.specs.declared.steps.Axis.{Axis}
 use Rattle.surfaces.specs.declared.steps.Axis.the-variants.{U, «V»}
 use Rattle.surfaces.specs.declared.surface.Domain.{Domain}
@@ -11,7 +12,7 @@ use Rattle.surfaces.specs.declared.surface.Period.{Period}
 use Rattle.surfaces.specs.declared.surface.Period.the-variants.{Every, None}
 use Rattle.surfaces.specs.declared.surface.Surface.{Surface}
 use Rattle.surfaces.specs.declared.surface.Surface.the-variants.{Plane, Cylinder, Cone, Sphere, Torus}
-use Rattle.compared.specs.declared.of_surfaces.Limits.{Limits}
+use Rattle.compared.specs.declared.of_surfaces.DomainEnds.{DomainEnds}
 
 -- 01, "The face record": kind (0 plane, 1 cylinder, 2 cone, 3 sphere, 4 torus), with its two sizes; what is over 4 counts as a torus
 abbrev pub surfaceOf : ℕ → Float → Float → Surface
@@ -27,15 +28,10 @@ axisOf along = cond along U «V»
 abbrev pub resolvedOf : Float → Float → ℕ → Resolved
 resolvedOf s a n = record { sag = s; angle = a; «min_edge_segments» = n }
 
--- 0 where there is no period
-abbrev pub lengthOf : Period → Float
-lengthOf (Every p) = p
-lengthOf None = plusZero
-
 abbrev pub periodOf : Float → Period
 periodOf p = cond (eq p plusZero) None (Every p)
 
-abbrev pub limitsOf : Domain → Limits
-limitsOf d =
+abbrev pub endsOf : Domain → DomainEnds
+endsOf d =
     record
-    { ulo = d .u .lo; uhi = d .u .hi; vlo = d .v .lo; vhi = d .v .hi; uperiod = lengthOf (d .«u_period»); vperiod = lengthOf (d .«v_period») }
+    { ulo = d .u .lo; uhi = d .u .hi; vlo = d .v .lo; vhi = d .v .hi; uperiod = periodLength (d .«u_period»); vperiod = periodLength (d .«v_period») }

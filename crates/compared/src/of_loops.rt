@@ -7,6 +7,8 @@ ghost use Rattle.loops.specs.Span.{leastOf, greatestOf};
 ghost use Rattle.loops.specs.Wrap.{netWrap};
 ghost use Rattle.tables.specs.Corners.{us, vs};
 ghost use Rattle.tables.specs.Rows.{rows};
+ghost use Rattle.compared.specs.Surfaces.{periodOf};
+use super::of_surfaces::period_of;
 
 #[no_mangle]
 pub extern "C" fn compared_nearest_branch(value: f64, reference: f64, period: f64) -> f64
@@ -17,9 +19,9 @@ pub extern "C" fn compared_nearest_branch(value: f64, reference: f64, period: f6
 
 #[no_mangle]
 pub extern "C" fn compared_net_wrap(t: &[f64], period: f64) -> i32
-    ensures { λ r. ⌜ r ≡ netWrap (us (rows (now (t .entry)))) period ⌝ }
+    ensures { λ r. ⌜ r ≡ netWrap (periodOf period) (us (rows (now (t .entry)))) ⌝ }
 {
-    loops::rows::net_wrap(t, period)
+    loops::rows::net_wrap(t, period_of(period))
 }
 
 #[no_mangle]
@@ -37,15 +39,15 @@ pub extern "C" fn compared_mean_v(t: &[f64]) -> f64
 }
 
 #[no_mangle]
-pub extern "C" fn compared_least(xs: &[f64]) -> f64
-    ensures { λ r. ⌜ r ≡ leastOf (now (xs .entry)) ⌝ }
+pub extern "C" fn compared_least(t: &[f64]) -> f64
+    ensures { λ r. ⌜ r ≡ leastOf (us (rows (now (t .entry)))) ⌝ }
 {
-    loops::span::least(xs)
+    rings::table_choices::least(t)
 }
 
 #[no_mangle]
-pub extern "C" fn compared_greatest(xs: &[f64]) -> f64
-    ensures { λ r. ⌜ r ≡ greatestOf (now (xs .entry)) ⌝ }
+pub extern "C" fn compared_greatest(t: &[f64]) -> f64
+    ensures { λ r. ⌜ r ≡ greatestOf (us (rows (now (t .entry)))) ⌝ }
 {
-    loops::span::greatest(xs)
+    rings::table_choices::greatest(t)
 }

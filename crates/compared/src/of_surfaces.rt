@@ -8,7 +8,7 @@ ghost use Rattle.surfaces.specs.Points as Points;
 ghost use Rattle.surfaces.specs.Rungs.{keptDivisions, rungs, EndsOn, EndWritten, inner};
 ghost use Rattle.surfaces.specs.Steps.{vStepsOf, directionStepsOf};
 ghost use Rattle.compared.specs.Points.{pointOf, frameOf};
-ghost use Rattle.compared.specs.Surfaces.{surfaceOf, axisOf, resolvedOf, lengthOf, periodOf, limitsOf};
+ghost use Rattle.compared.specs.Surfaces.{surfaceOf, axisOf, resolvedOf, periodOf, endsOf};
 use super::of_numbers::Placement;
 use super::of_numbers::Point;
 use super::of_numbers::frame_of;
@@ -22,7 +22,7 @@ use surfaces::surface::Surface;
 
 // A domain: its ends, and its periods or 0.
 #[repr(C)]
-pub struct Limits {
+pub struct DomainEnds {
     pub ulo: f64,
     pub uhi: f64,
     pub vlo: f64,
@@ -55,15 +55,6 @@ fn axis_of(along: bool) -> Axis
     if along { Axis::U } else { Axis::V }
 }
 
-fn length_of(period: Period) -> f64
-    ensures { λ r. ⌜ r ≡ lengthOf period ⌝ }
-{
-    match period {
-        Period::Every(p) => p,
-        Period::None => 0.0,
-    }
-}
-
 pub fn period_of(length: f64) -> Period
     ensures { λ r. ⌜ r ≡ periodOf length ⌝ }
 {
@@ -73,18 +64,18 @@ pub fn period_of(length: f64) -> Period
     Period::Every(length)
 }
 
-fn limits_of(d: Domain) -> Limits
-    ensures { λ r. ⌜ r ≡ limitsOf d ⌝ }
+fn ends_of(d: Domain) -> DomainEnds
+    ensures { λ r. ⌜ r ≡ endsOf d ⌝ }
 {
     let u_period = d.u_period;
     let v_period = d.v_period;
-    Limits {
+    DomainEnds {
         ulo: d.u.lo,
         uhi: d.u.hi,
         vlo: d.v.lo,
         vhi: d.v.hi,
-        uperiod: length_of(u_period),
-        vperiod: length_of(v_period),
+        uperiod: u_period.length(),
+        vperiod: v_period.length(),
     }
 }
 
@@ -103,10 +94,10 @@ pub extern "C" fn compared_point_at(
 }
 
 #[no_mangle]
-pub extern "C" fn compared_domain(kind: u32, a: f64, b: f64) -> Limits
-    ensures { λ d. ⌜ d ≡ limitsOf (domainOf (surfaceOf kind a b)) ⌝ }
+pub extern "C" fn compared_domain(kind: u32, a: f64, b: f64) -> DomainEnds
+    ensures { λ d. ⌜ d ≡ endsOf (domainOf (surfaceOf kind a b)) ⌝ }
 {
-    limits_of(surface_of(kind, a, b).domain())
+    ends_of(surface_of(kind, a, b).domain())
 }
 
 #[no_mangle]

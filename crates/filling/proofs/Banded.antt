@@ -37,7 +37,7 @@ use Rattle.records.specs.Refusals.{Verdict, passes, refuses, verdict}
 use Rattle.records.specs.Result.{cornersOf, countOf, areaOf}
 use Rattle.results.specs.declared.Path.the-variants.{Wrapped}
 use Rattle.call.specs.Face.{wrapping, settingIn, givenIn}
-use Rattle.call.specs.Later.{stripPoints, longStrip}
+use Rattle.call.specs.Later.{stripPoints, longStrip, stripConditions}
 use Rattle.call.specs.Paths.{ResultLoop, signedArea, loopsFrom, wrappedLoops, resultLoops}
 use Rattle.call.proofs.Demands.{loops-of-each}
 use Rattle.call.proofs.Loops.{loops-wrap}
@@ -46,7 +46,6 @@ use Rattle.holes.specs.Others.{others}
 use Rattle.holes.proofs.Others.{map-others}
 use Rattle.filling.specs.Band.{bandClosing, BandIs, BandFace}
 use Rattle.filling.specs.Filled.{HoldsResult, FillsTo, pathTaken, filledBy}
-use Rattle.filling.specs.Stages.{stripConditions}
 use Rattle.filling.specs.declared.face.Filled.the-variants.{Face, Refused}
 use Rattle.filling.proofs.Others.{total-length, flat-pieces}
 use Rattle.filling.proofs.Taken.{hole-lists, hole-counts, holes-two-less, points-few, few}
@@ -140,11 +139,11 @@ module _ (s : List ℕ) (corners : List Float) (given : List ℕ) (loops : List 
 
   -- ---- the verdict
 
-  short-passes : stripPoints s ≤ version1 .strip → verdict stripConditions s ≡ passes
+  short-passes : stripPoints s ≤ version1 .strip → verdict (stripConditions version1) s ≡ passes
   unfolding verdict longStrip
   short-passes h = rw (eq-eqb (wrapping s) 2 (f .two), le-ltb (version1 .strip) (stripPoints s) h)
 
-  long-refuses : version1 .strip < stripPoints s → verdict stripConditions s ≡ refuses 12 (stripPoints s)
+  long-refuses : version1 .strip < stripPoints s → verdict (stripConditions version1) s ≡ refuses 12 (stripPoints s)
   unfolding verdict longStrip
   long-refuses h = rw (eq-eqb (wrapping s) 2 (f .two), lt-ltb (version1 .strip) (stripPoints s) h)
 
@@ -177,7 +176,7 @@ module _ (s : List ℕ) (corners : List Float) (given : List ℕ) (loops : List 
             let m = strip-most s (f .accepted) in
             (omega arith, omega arith)
 
-    pub filled-long : (n : ℕ) (counts : List ℕ) (areas : List Float) → r ≡ TooMany n → FillsTo (verdict stripConditions s) s (Refused 12 n) counts areas t
+    pub filled-long : (n : ℕ) (counts : List ℕ) (areas : List Float) → r ≡ TooMany n → FillsTo (verdict (stripConditions version1) s) s (Refused 12 n) counts areas t
     filled-long n counts areas e =
         let l = too-long n e in
         record {
@@ -214,7 +213,7 @@ module _ (s : List ℕ) (corners : List Float) (given : List ℕ) (loops : List 
     pub filled-short : (t′ : List Float) (counts counts′ : List ℕ) (areas areas′ : List Float) (m : ℕ) → length (set counts 0 n) ≡ 16 → length (set areas 0 area) ≡ 16
         → rows t′ ≡ placed n (rows held) (rows t) → counts′ ≡ placed 1 (others a b given) (set counts 0 n)
         → areas′ ≡ placed 1 (others a b (map signedArea (pieces given (rows corners)))) (set areas 0 area) → m ≡ length given - 1
-        → FillsTo (verdict stripConditions s) s (Face Wrapped m) counts′ areas′ t′
+        → FillsTo (verdict (stripConditions version1) s) s (Face Wrapped m) counts′ areas′ t′
     filled-short t′ counts counts′ areas areas′ m in-counts in-areas put-rows put-counts put-areas m-is =
         let two-less = holes-two-less s corners given loops frame surface options sense a b f in
         let lengths = ap length picked ∙ length-map (g .holes) length in

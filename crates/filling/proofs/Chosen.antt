@@ -5,7 +5,7 @@ use mathlib.Core.List.{List, [], _∷_}
 use native.Mathlib.Omega.{arith}
 use borrow.Author.Tests.{eq-eqb, ne-eqb}
 use Rattle.records.specs.Face.{loops}
-use Rattle.results.specs.declared.Path.the-variants.{Closed, Wrapped, Whole}
+use Rattle.results.specs.declared.Path.the-variants.{Closed, Whole}
 use Rattle.call.specs.Face.{loopsIn, wrapping, uPeriodIn, vPeriodIn}
 use Rattle.call.specs.Paths.{wholeLoop, closedLoops, wrappedLoops, resultLoops}
 use Rattle.filling.specs.Filled.{pathTaken}
@@ -32,7 +32,3 @@ module _ (s : List ℕ) where
     pub takes-wrapped : 0 < wrapping s → resultLoops s ≡ wrappedLoops s
     unfolding resultLoops
     takes-wrapped e = rw (ne-eqb (loops s) 0 (λ z. omega arith), ne-eqb (wrapping s) 0 (λ z. omega arith))
-
-    pub path-wrapped : 0 < wrapping s → Wrapped ≡ pathTaken s
-    unfolding pathTaken
-    path-wrapped e = rw (ne-eqb (loops s) 0 (λ z. omega arith), ne-eqb (wrapping s) 0 (λ z. omega arith))

@@ -31,10 +31,10 @@ use Rattle.records.specs.Refusals as Sought
 use Rattle.records.proofs.Search.{nowhere≢at}
 use Rattle.records.specs.declared.check.Place.{Place}
 use Rattle.records.specs.declared.check.Place.the-variants.{Nowhere, At}
-use Rattle.call.specs.Face.{frameIn, surfaceIn, optionsIn, senseIn, wrapping}
+use Rattle.call.specs.Face.{frameIn, surfaceIn, optionsIn, senseIn, wrapping, wrapsIn}
 use Rattle.loop_records.specs.Loops.{recordsFrom}
-use Rattle.measuring.specs.Loops.{wrapsIn}
-use Rattle.measuring.specs.Refusals.{wrapsAt, lastWhere}
+use Rattle.call.specs.Later.{wrapsAt}
+use Rattle.measuring.specs.LastWhere.{lastWhere}
 use Rattle.holes.specs.Others.{others}
 use Rattle.filling.specs.Band.{BandFace}
 use Rattle.filling.proofs.TwoRings.{some-first, some-last}

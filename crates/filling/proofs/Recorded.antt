@@ -19,7 +19,8 @@ use Rattle.loop_records.specs.Record.{noLoop}
 use Rattle.bands.specs.Given.{falls}
 use Rattle.lists.specs.Elements.{sum}
 use Rattle.call.proofs.Sizes.{total}
-use Rattle.loop_records.specs.Loops.{wrapAlong, signOf, recordOf, recordsFrom}
+use Rattle.loop_records.specs.Loops.{signOf, recordOf, recordsFrom}
+use Rattle.loops.specs.Wrap.{netWrap}
 use Rattle.loop_records.proofs.Recorded.{length-records}
 
 falls-sign : (z : ℤ) → falls (signOf z) ≡ falls z
@@ -83,6 +84,6 @@ module _ (p : Period) (ns : List ℕ) (xs : Corners Vec3) (loops : List LoopReco
   unfolding recordOf
   count-there = ap (λ (q : LoopRecord). q .count) record-there
 
-  pub falls-there : falls (getD loops k noLoop .travel) ≡ falls (wrapAlong p (us (getD (pieces ns xs) k [])))
+  pub falls-there : falls (getD loops k noLoop .travel) ≡ falls (netWrap p (us (getD (pieces ns xs) k [])))
   unfolding recordOf
-  falls-there = ap (λ (q : LoopRecord). falls (q .travel)) record-there ∙ falls-sign (wrapAlong p (us (getD (pieces ns xs) k [])))
+  falls-there = ap (λ (q : LoopRecord). falls (q .travel)) record-there ∙ falls-sign (netWrap p (us (getD (pieces ns xs) k [])))

@@ -13,12 +13,10 @@ use Rattle.records.specs.Answers.{placeOf}
 use Rattle.records.specs.declared.check.Place.{Place}
 use Rattle.records.specs.declared.check.Place.the-variants.{Nowhere, At}
 use Rattle.records.specs.Refusals.{passes, refuses, refuseAt, verdict}
-use Rattle.call.specs.Face.{loopsIn}
+use Rattle.call.specs.Face.{loopsIn, wrapsIn}
 use Rattle.call.proofs.Loops.{loops-many}
-use Rattle.measuring.specs.Refusals.{openAmong, oneAmong, manyAmong, openKind}
-use Rattle.measuring.specs.Loops.{wrapsIn}
-use Rattle.measuring.proofs.Judged.{open-ring-in, one-ring-in, many-rings-in, open-surface-in}
-use Rattle.filling.specs.Stages.{ringConditions, ringsVerdict}
+use Rattle.call.specs.Later.{openAmong, oneAmong, manyAmong, openKind, openRing, oneRing, manyRings, openSurface, ringConditions}
+use Rattle.filling.specs.Stages.{ringsVerdict}
 
 -- ---- as the code finds them
 
@@ -53,11 +51,7 @@ module _ (kind : ℕ) (counts : List ℕ) (r : Corners Vec3) (wraps : List ℤ) 
 
 module _ (s : List ℕ) (ls : List (Corners Vec3)) (held : ls ≡ loopsIn s) (ws : List ℤ) (w : ws ≡ wrapsIn s) (kind : ℕ) (k : kind ≡ Face.kind s) where
   pub rings-judged : ringsVerdict kind ls ws ≡ verdict ringConditions s
-  unfolding ringsVerdict verdict
+  unfolding ringsVerdict verdict openRing oneRing manyRings openSurface
   rings-judged =
       let many : length ls ≡ Face.loops s = ap length held ∙ loops-many s in
-      let eight = ap (openAmong ls) w ∙ open-ring-in s ls held in
-      let nine = ap oneAmong w ∙ one-ring-in s in
-      let ten = ap manyAmong w ∙ many-rings-in s in
-      let eleven = (λ i. openKind (k i) (many i)) ∙ open-surface-in s in
-      λ i. refuseAt (eight i) 8 (refuseAt (nine i) 9 (refuseAt (ten i) 10 (refuseAt (eleven i) 11 passes)))
+      λ i. refuseAt (openAmong (held i) (w i)) 8 (refuseAt (oneAmong (w i)) 9 (refuseAt (manyAmong (w i)) 10 (refuseAt (openKind (k i) (many i)) 11 passes)))

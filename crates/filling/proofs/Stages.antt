@@ -27,18 +27,16 @@ use Rattle.records.proofs.Accepted.{accepted-exactly}
 use Rattle.records.proofs.Columns.{length-counts}
 use Rattle.records.proofs.Refused.{verdict-passes}
 use Rattle.records.specs.Limits.{version1}
-use Rattle.call.specs.Face.{surfaceOf, measuredIn, isWrapping, wrapping, surfaceIn, frameIn, optionsIn, senseIn, loopsIn}
+use Rattle.call.specs.Face.{surfaceOf, measuredIn, isWrapping, wrapping, surfaceIn, frameIn, optionsIn, senseIn, loopsIn, wrapsIn}
 use Rattle.call.specs.Paths.{signedArea}
-use Rattle.call.specs.Later.{longStrip}
+use Rattle.call.specs.Later.{longStrip, wrappingOf, ringConditions, stripConditions}
 use Rattle.call.proofs.Demands.{two-wrap}
 use Rattle.call.proofs.Loops.{measured-many}
 use Rattle.call.proofs.Sizes.{only-few}
 use Rattle.measuring.specs.Head.{frameAt, optionsAt}
 use Rattle.loop_records.specs.Loops.{recordsFrom}
-use Rattle.measuring.specs.Loops.{wrapsIn}
-use Rattle.measuring.specs.Refusals.{wrappingOf}
 use Rattle.measuring.proofs.Heads.{frame-read, surface-read, options-read}
-use Rattle.measuring.proofs.Judged.{wrapping-in}
+use Rattle.call.proofs.Judged.{wrapping-in}
 use Rattle.measuring.proofs.Measured.{wraps-shown, areas-shown}
 use Rattle.loop_records.proofs.Recorded.{read-out}
 use Rattle.filling.specs.declared.face.Filled.{Filled}
@@ -46,7 +44,7 @@ use Rattle.filling.specs.declared.face.Filled.the-variants.{Refused}
 use Rattle.filling.specs.declared.verdict.Verdict.{Verdict as Found}
 use Rattle.filling.specs.declared.verdict.Verdict.the-variants.{Passes, Refuses}
 use Rattle.filling.specs.Filled.{filledBy, FillsTo}
-use Rattle.filling.specs.Stages.{ReadAs, verdictOf, ringConditions, stripConditions}
+use Rattle.filling.specs.Stages.{ReadAs, verdictOf}
 
 -- ---- conditions behind others
 
@@ -121,7 +119,7 @@ module _ (s : List ℕ) (a : Accepted version1 s) (head : List Float) (counts : 
   none-of-none e = let f = few-wrap in omega arith
 
   -- a face without a band has no strip
-  no-strip : (wrapping s ≡ 2 → ⊥) → passes ≡ verdict stripConditions s
+  no-strip : (wrapping s ≡ 2 → ⊥) → passes ≡ verdict (stripConditions version1) s
   unfolding verdict longStrip
   no-strip h = rw (ne-eqb (wrapping s) 2 h)
 
@@ -136,10 +134,10 @@ module _ (s : List ℕ) (a : Accepted version1 s) (head : List Float) (counts : 
   sense-in sense sense-is = ap (λ (k : ℕ). k =? 1) sense-is
 
   module _ (r : Filled) (counts′ : List ℕ) (areas′ t′ : List Float) (f : FillsTo passes s r counts′ areas′ t′) where
-    unwrapped : wrapping s ≡ 0 → FillsTo (verdict stripConditions s) s r counts′ areas′ t′
+    unwrapped : wrapping s ≡ 0 → FillsTo (verdict (stripConditions version1) s) s r counts′ areas′ t′
     unwrapped e = subst (λ (v : Verdict). FillsTo v s r counts′ areas′ t′) (no-strip (λ two. omega arith)) f
 
-    pub whole-filled : length counts ≡ 0 → FillsTo (verdict stripConditions s) s r counts′ areas′ t′
+    pub whole-filled : length counts ≡ 0 → FillsTo (verdict (stripConditions version1) s) s r counts′ areas′ t′
     whole-filled e = unwrapped (none-of-none (no-loops e))
 
   module _ (wraps : List ℤ) (wraps-are : wraps ≡ wrapsIn s) (n : ℕ) (n-is : n ≡ wrappingOf wraps) where
@@ -150,7 +148,7 @@ module _ (s : List ℕ) (a : Accepted version1 s) (head : List Float) (counts : 
     none-wraps e = wrap-many ∙ e
 
     pub closed-filled : n ≡ 0 → (r : Filled) (counts′ : List ℕ) (areas′ t′ : List Float) → FillsTo passes s r counts′ areas′ t′
-        → FillsTo (verdict stripConditions s) s r counts′ areas′ t′
+        → FillsTo (verdict (stripConditions version1) s) s r counts′ areas′ t′
     closed-filled e r counts′ areas′ t′ f = unwrapped r counts′ areas′ t′ f (none-wraps e)
 
     pub band-wraps : verdict ringConditions s ≡ passes → (n ≡ 0 → ⊥) → wrapping s ≡ 2

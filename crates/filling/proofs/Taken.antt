@@ -1,6 +1,6 @@
 -- The rings and the holes that are taken from a face record are those of its band.
 use Prim.Native.Nat.{ℕ, _+_, _-_, _*_, _≤_, _<_, min}
-use mathlib.Core.Path.{_≡_, refl, sym, ap, _∙_, subst}
+use mathlib.Core.Path.{_≡_, sym, ap, _∙_, subst}
 use mathlib.Core.Bool.{Bool}
 use mathlib.Core.List.{List, [], map, flatten}
 use native.Mathlib.Omega.{arith}
@@ -10,12 +10,13 @@ use Rattle.numbers.specs.declared.math.Frame.{Frame}
 use Rattle.numbers.specs.declared.math.Vec3.{Vec3}
 use Rattle.surfaces.specs.declared.options.Resolved.{Resolved}
 use Rattle.surfaces.specs.declared.surface.Period.{Period}
-use Rattle.surfaces.specs.declared.surface.Period.the-variants.{Every, None}
 use Rattle.surfaces.specs.declared.surface.Surface.{Surface}
 use Rattle.surfaces.specs.Domains.{uPeriod, periodLength}
 use Rattle.lists.specs.Pieces.{pieces}
 use Rattle.lists.specs.Placed.{placed}
+use Rattle.lists.specs.Places.{places}
 use Rattle.lists.proofs.Elements.{getD-map}
+use Rattle.lists.proofs.Places.{length-places}
 use Rattle.lists.proofs.Placed.{placed-fits, front-placed}
 use Rattle.tables.specs.Corners.{Corners, us}
 use Rattle.tables.specs.Rows.{rows}
@@ -31,22 +32,17 @@ use Rattle.records.specs.Face as Record
 use Rattle.records.specs.Limits.{version1}
 use Rattle.records.proofs.Accepted.{points-sum}
 use Rattle.records.proofs.Columns.{length-counts, length-corners}
-use Rattle.call.specs.Face.{surfaceIn, loopsIn, wrapOf, measuredIn, settingIn, givenIn}
-use Rattle.call.specs.Later.{loopIn}
+use Rattle.call.specs.Face.{surfaceIn, loopsIn, measuredIn, settingIn, givenIn}
+use Rattle.call.proofs.Judged.{loopIn, none, corners-in}
 use Rattle.call.proofs.Loops.{loops-many, loops-total}
-use Rattle.loop_records.specs.Loops.{wrapAlong}
-use Rattle.measuring.proofs.Judged.{none, corners-in}
+use Rattle.loops.specs.Wrap.{netWrap}
 use Rattle.measuring.proofs.RingsGiven.{first-given, later-given}
 use Rattle.holes.specs.Others.{others}
-use Rattle.holes.proofs.Others.{map-others}
+use Rattle.holes.proofs.Others.{map-others, others-as-many}
 use Rattle.filling.specs.Band.{BandIs, BandFace}
 use Rattle.filling.proofs.Others.{others-many, total-length, pieces-front, pieces-long}
 use Rattle.filling.proofs.Recorded.{corners-there, count-there, falls-there}
 use Rattle.filling.proofs.TwoRings.{inside, apart, holes-given, points-parted}
-
-same-wrap : (p : Period) (loop : Corners Vec3) → wrapAlong p (us loop) ≡ wrapOf p loop
-same-wrap None loop = refl
-same-wrap (Every p) loop = refl
 
 module _ (s : List ℕ) (corners : List Float) (given : List ℕ) (loops : List LoopRecord) (frame : Frame) (surface : Surface) (options : Resolved) (sense : Bool) (a b : ℕ)
     (f : BandFace s corners given loops frame surface options sense a b) where
@@ -113,9 +109,8 @@ module _ (s : List ℕ) (corners : List Float) (given : List ℕ) (loops : List 
     ring-falls =
         let m = many in
         falls-there (uPeriod surface) given (rows corners) loops (f .loops-are) few k h
-        ∙ (λ i. falls (wrapAlong (uPeriod (f .surface-is i)) (us (getD (loops-held i) k []))))
-        ∙ ap falls (same-wrap (uPeriod (surfaceIn s)) (getD (loopsIn s) k []))
-        ∙ sym (ap (λ (m : Measured Vec3). falls (m .wrap)) (getD-map (λ (l : Corners Vec3). record { corners = l; wrap = wrapOf (uPeriod (surfaceIn s)) l }) (loopsIn s) k none [] (omega arith)))
+        ∙ (λ i. falls (netWrap (uPeriod (f .surface-is i)) (us (getD (loops-held i) k []))))
+        ∙ sym (ap (λ (m : Measured Vec3). falls (m .wrap)) (getD-map (λ (l : Corners Vec3). record { corners = l; wrap = netWrap (uPeriod (surfaceIn s)) (us l) }) (loopsIn s) k none [] (omega arith)))
 
     -- in the front of a table
     pub ring-taken : (one : LoopRecord) (d d′ : List Float) (m : ℕ) → one ≡ getD loops k noLoop → length d ≡ 2560 → length (loopIn s k .corners) ≤ version1 .points
@@ -138,8 +133,9 @@ module _ (s : List ℕ) (corners : List Float) (given : List ℕ) (loops : List 
   abbrev hs : List (Corners Vec3)
   hs = givenIn s .holes
 
-  pub counts-taken : (d d′ : List ℕ) (r k : ℕ) → length d ≡ 16 → r ≡ length (others a b given) → k ≡ min r 16 → d′ ≡ placed 0 (others a b given) d → take k d′ ≡ others a b given
+  pub counts-taken : (d d′ : List ℕ) (r k : ℕ) → length d ≡ 16 → r ≡ length (others a b (places (length given))) → k ≡ min r 16 → d′ ≡ placed 0 (others a b given) d → take k d′ ≡ others a b given
   counts-taken d d′ r k long r-is k-is put =
+      let as-many : r ≡ length (others a b given) = r-is ∙ others-as-many a b 0 (places (length given)) given (length-places (length given)) in
       let e = ap length hole-counts ∙ length-map hs length in
       let n = holes-two-less in
       let m = few in

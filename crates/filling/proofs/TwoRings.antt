@@ -1,6 +1,6 @@
 -- Where two loops wrap, they are the last and the first that do, and all others are holes.
 use Prim.Native.Nat.{ℕ, zero, suc, _+_, _≤_, _<_}
-use mathlib.Core.Path.{_≡_, refl, sym, ap, _∙_, subst}
+use mathlib.Core.Path.{_≡_, refl, sym, ap, _∙_}
 use mathlib.Core.Logic.{_⊎_, inl, inr}
 use mathlib.Core.Bool.{Bool, true, false, cond, true≢false}
 use mathlib.Core.List.{List, [], _∷_, map, flatten}
@@ -13,13 +13,12 @@ use Rattle.bands.specs.Given.{Measured, Loop, givenOf}
 use Rattle.lists.specs.Elements.{only, sum}
 use Rattle.records.specs.Refusals.{nowhere, at, firstWhere}
 use Rattle.records.proofs.Search.{Least, nowhere≢at, first-holds, first-fails}
-use Rattle.call.specs.Face.{loopsIn, measuredIn, isWrapping, wrapping, givenIn}
-use Rattle.call.specs.Later.{loopIn}
+use Rattle.call.specs.Face.{loopsIn, measuredIn, isWrapping, wrapping, givenIn, wrapsIn}
+use Rattle.call.proofs.Judged.{loopIn, none, wraps-in, unmarked, corners-in}
 use Rattle.call.proofs.Each.{all-getD}
 use Rattle.call.proofs.Loops.{measured-some}
-use Rattle.measuring.specs.Refusals.{wrapsAt, lastWhere}
-use Rattle.measuring.specs.Loops.{wrapsIn}
-use Rattle.measuring.proofs.Judged.{none, wraps-in, unmarked, corners-in}
+use Rattle.call.specs.Later.{wrapsAt}
+use Rattle.measuring.specs.LastWhere.{lastWhere}
 use Rattle.measuring.proofs.RingsGiven.{Greatest, last-holds, only-first, none-passes, one-passes, as-many, first-given, later-given}
 use Rattle.holes.specs.Others.{isRing, others}
 use Rattle.filling.proofs.Others.{is-first, is-second, is-neither, others-are, others-sum, others-many, total-length}
@@ -181,12 +180,6 @@ module _ (s : List ℕ) (two : wrapping s ≡ 2) where
     ring-some : (k : ℕ) → isWrapping (loop k) ≡ true → 0 < length (loopIn s k .corners)
     unfolding loopIn
     ring-some k t = all-getD (measured-some s) k _ (λ e. absurd (true≢false (sym e))) t
-
-    pub first-some : 0 < length (givenIn s .first .corners)
-    first-some = subst (λ (l : Loop Vec3). 0 < length (l .corners)) (sym (first-given s two a a-last)) (ring-some a (a-passes .1))
-
-    pub later-some : 0 < length (givenIn s .later .corners)
-    later-some = subst (λ (l : Loop Vec3). 0 < length (l .corners)) (sym (later-given s two b b-first)) (ring-some b (b-passes .1))
 
     -- holes and rings have all points of the loops
     pub points-parted : length (flatten (givenIn s .holes)) + (length (givenIn s .first .corners) + length (givenIn s .later .corners)) ≡ length (flatten (loopsIn s))

@@ -28,10 +28,10 @@ use Rattle.records.specs.Accepted.{Accepted}
 use Rattle.records.specs.Face.{counts, cornersIn}
 use Rattle.records.specs.Limits.{version1}
 use Rattle.records.specs.Refusals.{at, firstWhere}
-use Rattle.call.specs.Face.{frameIn, surfaceIn, optionsIn, senseIn, wrapping}
+use Rattle.call.specs.Face.{frameIn, surfaceIn, optionsIn, senseIn, wrapping, wrapsIn}
 use Rattle.loop_records.specs.Loops.{recordsFrom}
-use Rattle.measuring.specs.Loops.{wrapsIn}
-use Rattle.measuring.specs.Refusals.{wrapsAt, lastWhere}
+use Rattle.call.specs.Later.{wrapsAt}
+use Rattle.measuring.specs.LastWhere.{lastWhere}
 
 module _ (S : Setting Vec3) (given : Given Vec3) where
   -- how many corners the band has and its area; or how many points its strip has "before repeats are dropped", over 1,024 (01, refusal 12)

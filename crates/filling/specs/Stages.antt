@@ -1,7 +1,7 @@
 -- The stages of filling a face: what a record is read as, and what is left to be judged after each stage.
 use Prim.Native.Nat.{ℕ}
 use mathlib.Core.Path.{_≡_}
-use mathlib.Core.List.{List, [], _∷_}
+use mathlib.Core.List.{List}
 use lib.IntN.{ℤ}
 use lib.Ieee.{Float}
 use lib.ListN.{length}
@@ -10,10 +10,8 @@ use Rattle.tables.specs.Corners.{Corners}
 use Rattle.tables.specs.Rows.{rows}
 use Rattle.records.specs.Face as Face
 use Rattle.records.specs.Face.{cornersIn}
-use Rattle.records.specs.Limits.{version1}
-use Rattle.records.specs.Refusals.{Verdict, passes, refuses, Condition, _on_, refuseAt}
-use Rattle.call.specs.Later.{openRing, oneRing, manyRings, openSurface, longStrip}
-use Rattle.measuring.specs.Refusals.{openAmong, oneAmong, manyAmong, openKind}
+use Rattle.records.specs.Refusals.{Verdict, passes, refuses, refuseAt}
+use Rattle.call.specs.Later.{openAmong, oneAmong, manyAmong, openKind}
 use Rattle.filling.specs.declared.verdict.Verdict.{Verdict as Found}
 use Rattle.filling.specs.declared.verdict.Verdict.the-variants.{Passes, Refuses}
 
@@ -26,19 +24,6 @@ pub record ReadAs (s : List ℕ) (head : List Float) (counts : List ℕ) (t : Li
 abbrev pub verdictOf : Found → Verdict
 verdictOf Passes = passes
 verdictOf (Refuses n p) = refuses n p
-
--- the refusals 8 to 11
-abbrev pub ringConditions : List Condition
-ringConditions =
-    8 on openRing
-    ∷ 9 on oneRing
-    ∷ 10 on manyRings
-    ∷ 11 on openSurface
-    ∷ []
-
--- the last refusal
-abbrev pub stripConditions : List Condition
-stripConditions = 12 on longStrip version1 ∷ []
 
 -- the refusals 8 to 11 of a face of this kind with these loops and their wraps, the first that holds
 unfoldable pub ringsVerdict : ℕ → List (Corners Vec3) → List ℤ → Verdict

@@ -10,13 +10,12 @@ ghost use Rattle.loop_records.specs.Record.{noLoop};
 ghost use Rattle.records.specs.Accepted.{Accepted};
 ghost use Rattle.records.specs.Refusals.{passes, verdict, recordConditions};
 ghost use Rattle.records.specs.Limits.{version1};
-ghost use Rattle.call.specs.Face.{surfaceIn};
+ghost use Rattle.call.specs.Face.{surfaceIn, wrapsIn};
 ghost use Rattle.call.specs.Paths.{signedArea};
-ghost use Rattle.call.specs.Later.{laterConditions};
+ghost use Rattle.call.specs.Later.{ringConditions, stripConditions, laterConditions};
 ghost use Rattle.loop_records.specs.Loops.{recordsFrom};
-ghost use Rattle.measuring.specs.Loops.{wrapsIn};
 ghost use Rattle.filling.specs.Filled.{readMany, FillsTo};
-ghost use Rattle.filling.specs.Stages.{ReadAs, ringConditions, stripConditions};
+ghost use Rattle.filling.specs.Stages.{ReadAs};
 use super::fill_band;
 use super::fill_closed;
 use super::fill_whole;
@@ -68,7 +67,7 @@ fn fill_path(
         → loops ≡ placed 0 (recordsFrom (uPeriod surface) 0 (pieces (now (given .entry)) (rows (now (corners .entry))))) (replicate 16 noLoop)
         → now (wraps .entry) ≡ wrapsIn (now (face .entry)) → now (measured .entry) ≡ map signedArea (pieces (now (given .entry)) (rows (now (corners .entry))))
         → surface ≡ surfaceIn (now (face .entry)) → verdict ringConditions (now (face .entry)) ≡ passes
-        → FillsTo (verdict stripConditions (now (face .entry))) (now (face .entry)) r (now (counts .exit)) (now (areas .exit)) (now (t .exit))) ⌝ }
+        → FillsTo (verdict (stripConditions version1) (now (face .entry))) (now (face .entry)) r (now (counts .exit)) (now (areas .exit)) (now (t .exit))) ⌝ }
 {
     let options = options_of(head, segments(face));
     if given.len() == 0 {

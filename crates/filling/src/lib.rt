@@ -12,11 +12,10 @@ ghost use Rattle.loop_records.specs.Record.{noLoop};
 ghost use Rattle.records.specs.Accepted.{Accepted};
 ghost use Rattle.records.specs.Face.{loops as loopsOf, counts as countsOf, cornersIn};
 ghost use Rattle.records.specs.Refusals.{passes, verdict, at};
-ghost use Rattle.call.specs.Face.{surfaceIn, frameIn, optionsIn, senseIn, wrapping, settingIn, givenIn};
+ghost use Rattle.call.specs.Face.{surfaceIn, frameIn, optionsIn, senseIn, wrapping, settingIn, givenIn, wrapsIn};
 ghost use Rattle.loop_records.specs.Loops.{recordsFrom};
-ghost use Rattle.measuring.specs.Loops.{wrapsIn};
 ghost use Rattle.filling.specs.Filled.{FillsTo};
-ghost use Rattle.filling.specs.Stages.{stripConditions};
+ghost use Rattle.call.specs.Later.{stripConditions};
 ghost use Rattle.bands.specs.Given.{falls};
 ghost use Rattle.bands.specs.Columns.{settingOf};
 ghost use Rattle.laying.specs.Held.{givenIn as heldIn};
@@ -45,7 +44,6 @@ use records::check::Place;
 use results::Path;
 use strip::closing::Closing;
 use surfaces::options::Resolved;
-use surfaces::surface::Period;
 use surfaces::surface::Surface;
 use tables::copies::copy_rows;
 use tables::slices::put;
@@ -126,16 +124,6 @@ fn number_of(place: Place) -> usize
     match place {
         Place::At(k) => k,
         Place::Nowhere => 0,
-    }
-}
-
-// 0 where the parameter does not come round.
-fn period_length(period: Period) -> f64
-    ensures { λ r. ⌜ r ≡ periodLength period ⌝ }
-{
-    match period {
-        Period::Every(p) => p,
-        Period::None => 0.0,
     }
 }
 
@@ -229,7 +217,7 @@ fn band_of(
     pick_holes(holes, 0, corners, given, a, b);
     pick_counts(&mut counts, 0, given, a, b);
     let k = shorter(count_holes(given.len(), a, b), 16);
-    let period = period_length(surface.u_period());
+    let period = surface.u_period().length();
     band_between(
         &mut first[..m],
         &mut later[..n],
@@ -274,7 +262,7 @@ fn fill_band(
     ensures { λ r. ⌜ ((s : List ℕ) → Accepted version1 s → wrapping s ≡ 2 → now (given .entry) ≡ countsOf s → rows (now (corners .entry)) ≡ cornersIn s
         → loops ≡ placed 0 (recordsFrom (uPeriod surface) 0 (pieces (now (given .entry)) (rows (now (corners .entry))))) (replicate 16 noLoop)
         → now (wraps .entry) ≡ wrapsIn s → now (measured .entry) ≡ map signedArea (pieces (now (given .entry)) (rows (now (corners .entry)))) → surface ≡ surfaceIn s → frame ≡ frameIn s → options ≡ optionsIn s → sense ≡ senseIn s
-        → FillsTo (verdict stripConditions s) s r (now (counts .exit)) (now (areas .exit)) (now (t .exit))) ⌝ }
+        → FillsTo (verdict (stripConditions version1) s) s r (now (counts .exit)) (now (areas .exit)) (now (t .exit))) ⌝ }
 {
     let mut holes = [0.0; 2560];
     let a = number_of(last_wrapping(wraps));

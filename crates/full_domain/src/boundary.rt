@@ -102,7 +102,7 @@ pub fn side_count(surface: Surface, axis: Axis, options: Resolved) -> usize
 }
 
 // The rungs of a direction, as many as there is room for. There are at most 257.
-pub fn lay_rungs(surface: Surface, axis: Axis, options: Resolved, out: &mut [f64])
+pub fn write_rungs(surface: Surface, axis: Axis, options: Resolved, out: &mut [f64])
     ensures { λ _. ⌜ now (out .exit) ≡ sets (now (out .entry)) 0 (rungsOf axis surface options) ⌝ }
     ensures { λ _. ⌜ RungsWritten axis surface options (now (out .exit)) ⌝ }
 {

@@ -12,10 +12,10 @@ ghost use Rattle.tables.specs.Rows.{rows, cornerOf};
 ghost use Rattle.full_domain.specs.Boundary.{rungsOf, cornerAlong, walked, side, sides, sidesOf, areaWithin};
 ghost use Rattle.full_domain.specs.Table.{placedCorner, wholeRows, RowsReach};
 use super::boundary::is_whole;
-use super::boundary::lay_rungs;
 use super::boundary::position_at;
 use super::boundary::range_of;
 use super::boundary::side_count;
+use super::boundary::write_rungs;
 use loops::rows::signed_area;
 use numbers::math::Frame;
 use numbers::math::Vec2;
@@ -112,8 +112,8 @@ fn put_boundary(
 {
     let mut us = [0.0; 257];
     let mut vs = [0.0; 257];
-    lay_rungs(surface, Axis::U, options, &mut us);
-    lay_rungs(surface, Axis::V, options, &mut vs);
+    write_rungs(surface, Axis::U, options, &mut us);
+    write_rungs(surface, Axis::V, options, &mut vs);
     put_sides(
         surface,
         frame,

@@ -1,12 +1,11 @@
 // One value of each loop, its count or its area: those of the holes, which are all loops but those of
 // number a and b. Where they do not all fit, nothing is written.
 ghost use mathlib.Core.Path.{_≡_};
-ghost use mathlib.Core.List.{List};
-ghost use Prim.Native.Nat.{ℕ, _+_};
-ghost use lib.Dec.{leb};
 ghost use lib.ListN.{length};
 ghost use Rattle.lists.specs.Placed.{placed};
+ghost use Rattle.lists.specs.Places.{places};
 ghost use Rattle.holes.specs.Others.{isRing, others};
+use tables::slices::has_room;
 
 pub fn is_ring(i: usize, a: usize, b: usize) -> bool
     ensures { λ r. ⌜ r ≡ isRing a b i ⌝ }
@@ -17,19 +16,9 @@ pub fn is_ring(i: usize, a: usize, b: usize) -> bool
     i == b
 }
 
-// Whether n places from `at` on are within `room`, without a sum that could wrap.
-pub fn has_room(room: usize, at: usize, n: usize) -> bool
-    ensures { λ r. ⌜ r ≡ leb (at + n) room ⌝ }
-{
-    if room < n {
-        return false;
-    }
-    at <= room - n
-}
-
 // How many of n loops are holes.
 pub fn count_holes(n: usize, a: usize, b: usize) -> usize
-    ensures { λ r. ⌜ ((loops : List ℕ) → length loops ≡ n → r ≡ length (others a b loops)) ⌝ }
+    ensures { λ r. ⌜ r ≡ length (others a b (places n)) ⌝ }
 {
     let mut k = 0;
     let mut i = 0;

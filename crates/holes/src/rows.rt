@@ -9,10 +9,10 @@ ghost use Rattle.lists.specs.Pieces.{pieces};
 ghost use Rattle.lists.specs.Placed.{placed};
 ghost use Rattle.tables.specs.Rows.{rows};
 ghost use Rattle.holes.specs.Others.{others};
-use crate::picked::has_room;
 use crate::picked::is_ring;
 use tables::copies::copy_rows;
 use tables::corners::count;
+use tables::slices::has_room;
 use tables::slices::piece_end;
 
 // Where a loop from row `from` to `to`, unless it is a ring, ends behind `here`.

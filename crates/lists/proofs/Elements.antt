@@ -4,7 +4,7 @@ use mathlib.Core.Path.{_≡_, refl, sym, ap, _∙_}
 use mathlib.Core.List.{List, [], _∷_, _++_, map, reverse, reverse-cons, dropLast}
 use native.Mathlib.Nat.{le-of-suc-le-suc, not-suc-le-zero}
 use native.Mathlib.Omega.{arith}
-use lib.ListN.{length, take, drop, getD, replicate, length-reverse, List·getD-append}
+use lib.ListN.{length, take, getD, length-reverse, List·getD-append}
 use lib.Seq.{getD-at, take-nil}
 
 pub getD-map : {A B : Type 0} (f : A → B) (xs : List A) (i : ℕ) (y : B) (z : A) → i < length xs → getD (map f xs) i y ≡ f (getD xs i z)
@@ -42,20 +42,3 @@ module _ {A : Type 0} where
   dropLast-snoc [] z = refl
   dropLast-snoc (x ∷ []) z = refl
   dropLast-snoc (x ∷ y ∷ xs) z = ap (λ (l : List A). x ∷ l) (dropLast-snoc (y ∷ xs) z)
-
-  -- a stretch: its start cut off before its end or after
-  pub drop-take : (k n : ℕ) (xs : List A) → drop k (take n xs) ≡ take (n - k) (drop k xs)
-  drop-take zero n xs = let e : n - 0 ≡ n = omega arith in rw e
-  drop-take (suc k) zero xs = let e : 0 - suc k ≡ 0 = omega arith in rw e
-  drop-take (suc k) (suc n) [] = sym (take-nil (suc n - suc k))
-  drop-take (suc k) (suc n) (x ∷ xs) = let e : suc n - suc k ≡ n - k = omega arith in rw e (drop-take k n xs)
-
-  snoc-replicate : (n : ℕ) (x : A) → replicate n x ++ (x ∷ []) ≡ x ∷ replicate n x
-  snoc-replicate zero x = refl
-  snoc-replicate (suc n) x = ap (λ (l : List A). x ∷ l) (snoc-replicate n x)
-
-  -- of one element alone, backward is forward
-  pub reverse-replicate : (n : ℕ) (x : A) → reverse (replicate n x) ≡ replicate n x
-  reverse-replicate zero x = refl
-  reverse-replicate (suc n) x =
-      reverse-cons x (replicate n x) ∙ ap (λ (l : List A). l ++ (x ∷ [])) (reverse-replicate n x) ∙ snoc-replicate n x

@@ -10,9 +10,7 @@ use borrow.Author.Tests.{le-leb, lt-leb, leb-true}
 use lib.Dec.{leb}
 use lib.ListN.{length, take, drop, getD, set, length-append, length-drop, take-append-drop, drop-of-length-le}
 use lib.Seq.{length-take-le, take-at, drop-at, drop-drop, drop-cons, set-at, append-snoc}
-use Rattle.lists.specs.Parts.{onPart}
 use Rattle.lists.specs.Placed.{placed}
-use Rattle.lists.proofs.Parts.{on-part}
 
 module _ {A : Type 0} (at : ℕ) (w d : List A) where
   pub placed-fits : at + length w ≤ length d → placed at w d ≡ take at d ++ w ++ drop (at + length w) d
@@ -109,10 +107,3 @@ module _ {A : Type 0} (at e : ℕ) (w d : List A) (end-is : at + length w ≡ e)
 
   pub before-placed : take at (placed at w d) ≡ take at d
   before-placed = ap (take at) parts ∙ take-at (take at d) (w ++ drop (at + length w) d) at head
-
-  pub on-placed : (f : List A → List A) → length (f w) ≡ length w → onPart f at e (placed at w d) ≡ placed at (f w) d
-  on-placed f l =
-      ap (onPart f at e) parts ∙ on-part f (take at d) w (drop (at + length w) d) at e head end-is
-      ∙ ap (λ (n : ℕ). take at d ++ (f w ++ drop (at + n) d)) (sym l)
-      ∙ sym (append-assoc (take at d) (f w) (drop (at + length (f w)) d))
-      ∙ sym (placed-fits at (f w) d (omega arith))

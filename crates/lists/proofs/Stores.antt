@@ -1,11 +1,11 @@
 -- A run of stores into a list, `sets`: two runs, one behind the other; where the list has room for a part of them only, or is a part of a longer one.
 use Prim.Native.Nat.{ℕ, zero, suc, _+_, _-_, _≤_, _<_}
 use mathlib.Core.Path.{_≡_, refl, sym, ap, _∙_}
-use mathlib.Core.List.{List, [], _∷_, _++_, append-nil}
+use mathlib.Core.List.{List, [], _∷_, _++_}
 use native.Mathlib.Omega.{arith}
 use lib.Dec.{ltb}
 use lib.ListN.{length, getD, take, drop, set, length-take, length-set, take-append-drop, List·getD-append}
-use lib.Seq.{sets, length-sets, length-take-le, getD-take, sets-eq, set-out, take-nil, take-set-lt, drop-set-lt, drop-length}
+use lib.Seq.{sets, length-sets, getD-take, sets-eq, set-out, take-nil, take-set-lt, drop-set-lt}
 use borrow.Author.Tests.{ltb-true, ltb-false}
 use mathlib.Core.Bool.{Bool, true, false}
 
@@ -42,18 +42,6 @@ module _ {A : Type 0} where
           let p : m - suc i ≡ 0 = omega arith in
           let k : length (take m l) ≤ i = omega (arith, length-take m l) in
           rw (q, set-out (take m l) i v k) (rest l ∙ rw p)
-
-  pub sets-whole : (l vs : List A) → length l ≡ length vs → sets l 0 vs ≡ vs
-  sets-whole l vs e =
-      let h : 0 + length vs ≤ length l = omega arith in
-      let z : 0 + length vs ≡ length l = omega arith in
-      sets-eq vs l 0 h ∙ rw (z, drop-length l) (append-nil vs)
-
-  pub sets-over : (l vs : List A) → length l ≤ length vs → sets l 0 vs ≡ take (length l) vs
-  sets-over l vs h =
-      let k : length l ≤ 0 + length l = omega arith in
-      let e : length l ≡ length (take (length l) vs) = sym (length-take-le (length l) vs h) in
-      sym (sets-room l 0 (length l) vs k) ∙ sets-whole l (take (length l) vs) e
 
   -- a place that is stored to
   pub sets-at : (l vs out : List A) (k : ℕ) (z : A) → out ≡ sets l 0 vs → k < length out → k < length vs → getD out k z ≡ getD vs k z

@@ -1,4 +1,4 @@
--- A list changed at a place or in a part.
+-- A part of a list, and a list changed at a place or in a part.
 use Prim.Native.Nat.{ℕ, _-_}
 use mathlib.Core.List.{List, _++_}
 use lib.ListN.{getD, set, take, drop}

@@ -16,7 +16,6 @@ use mir.Val.{SFits, toZ, ofZ}
 use mir.Facts.{toZ-ofZ}
 use Rattle.numbers.specs.declared.math.Vec3.{Vec3}
 use Rattle.surfaces.specs.declared.surface.Period.{Period}
-use Rattle.surfaces.specs.declared.surface.Period.the-variants.{Every, None}
 use Rattle.lists.specs.Pieces.{pieces}
 use Rattle.lists.specs.Placed.{placed}
 use Rattle.lists.proofs.Filling.{Filling, front, front-turn, filling-end}
@@ -27,15 +26,7 @@ use Rattle.loop_records.specs.Record.{noLoop}
 use Rattle.tables.specs.Corners.{Corners, us, vs}
 use Rattle.loops.specs.Area.{areaOf}
 use Rattle.loops.specs.Wrap.{netWrap}
-use Rattle.loop_records.specs.Loops.{wrapAlong, signOf, recordOf, recordsFrom}
-
--- ---- a wrap, from the period
-
-pub wrap-every : (us : List Float) (period : Period) (p : Float) (r : ℤ) → period ≡ Every p → r ≡ netWrap us p → r ≡ wrapAlong period us
-wrap-every us period p r e w = w ∙ sym (ap (λ (q : Period). wrapAlong q us) e)
-
-pub wrap-none : (us : List Float) (period : Period) → period ≡ None → pos 0 ≡ wrapAlong period us
-wrap-none us period e = sym (ap (λ (q : Period). wrapAlong q us) e)
+use Rattle.loop_records.specs.Loops.{signOf, recordOf, recordsFrom}
 
 -- ---- the sign of a wrap, from the two tests
 
@@ -65,7 +56,7 @@ module _ (z : ℤ) (fits : SFits w32 z) where
 
 -- ---- one record
 
-pub record-is : (period : Period) (r : Corners Vec3) (start n : ℕ) (w t : ℤ) (a : Float) → n ≡ length r → SFits w32 w → SFits w32 t → w ≡ wrapAlong period (us r)
+pub record-is : (period : Period) (r : Corners Vec3) (start n : ℕ) (w t : ℤ) (a : Float) → n ≡ length r → SFits w32 w → SFits w32 t → w ≡ netWrap period (us r)
     → t ≡ signOf (toZ w32 (ofZ w32 w)) → a ≡ areaOf (us r) (vs r)
     → record { start = start; count = n; wrap = toZ w32 (ofZ w32 w); travel = toZ w32 (ofZ w32 t); area = a } ≡ recordOf period start r
 unfolding recordOf
@@ -82,10 +73,10 @@ module _ (period : Period) where
   length-records start [] = refl
   length-records start (r ∷ loops) = ap suc (length-records (start + length r) loops)
 
-  pub wraps-recorded : (start : ℕ) (loops : List (Corners Vec3)) → map (λ (l : LoopRecord). l .wrap) (recordsFrom period start loops) ≡ map (λ (r : Corners Vec3). wrapAlong period (us r)) loops
+  pub wraps-recorded : (start : ℕ) (loops : List (Corners Vec3)) → map (λ (l : LoopRecord). l .wrap) (recordsFrom period start loops) ≡ map (λ (r : Corners Vec3). netWrap period (us r)) loops
   unfolding recordsFrom recordOf
   wraps-recorded start [] = refl
-  wraps-recorded start (r ∷ loops) = ap (λ (ws : List ℤ). wrapAlong period (us r) ∷ ws) (wraps-recorded (start + length r) loops)
+  wraps-recorded start (r ∷ loops) = ap (λ (ws : List ℤ). netWrap period (us r) ∷ ws) (wraps-recorded (start + length r) loops)
 
   first-record : (start : ℕ) (r : Corners Vec3) (loops : List (Corners Vec3)) → recordsFrom period start (r ∷ loops) ≡ recordOf period start r ∷ recordsFrom period (start + length r) loops
   unfolding recordsFrom

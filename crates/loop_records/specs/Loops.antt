@@ -3,19 +3,12 @@ use Prim.Native.Nat.{ℕ, zero, suc, _+_}
 use mathlib.Core.List.{List, [], _∷_}
 use lib.IntN.{ℤ, pos, negsuc}
 use lib.ListN.{length}
-use lib.Ieee.{Float}
 use Rattle.numbers.specs.declared.math.Vec3.{Vec3}
 use Rattle.surfaces.specs.declared.surface.Period.{Period}
-use Rattle.surfaces.specs.declared.surface.Period.the-variants.{Every, None}
 use Rattle.tables.specs.Corners.{Corners, us, vs}
 use Rattle.loops.specs.Area.{areaOf}
 use Rattle.loops.specs.Wrap.{netWrap}
 use Rattle.loop_records.specs.declared.LoopRecord.{LoopRecord}
-
--- where u does not come round none wraps
-abbrev pub wrapAlong : Period → List Float → ℤ
-wrapAlong None us = pos 0
-wrapAlong (Every p) us = netWrap us p
 
 -- the sign of a wrap: 1, 0 or -1
 abbrev pub signOf : ℤ → ℤ
@@ -28,8 +21,8 @@ unfoldable pub recordOf : Period → ℕ → Corners Vec3 → LoopRecord
 recordOf period start r = record {
   start = start;
   count = length r;
-  wrap = wrapAlong period (us r);
-  travel = signOf (wrapAlong period (us r));
+  wrap = netWrap period (us r);
+  travel = signOf (netWrap period (us r));
   area = areaOf (us r) (vs r);
 }
 

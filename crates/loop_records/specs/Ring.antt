@@ -1,4 +1,4 @@
--- 01, "Bands": "Rings are taken last wrapping loop first".
+-- A loop taken out of a face's corners: what a record's start and count tell of.
 use Prim.Native.Nat.{ℕ}
 use lib.ListN.{take, drop}
 use Rattle.lists.specs.Placed.{placed}

@@ -8,7 +8,7 @@ ghost use Rattle.lists.specs.Placed.{placed};
 ghost use Rattle.tables.specs.Corners.{us};
 ghost use Rattle.tables.specs.Rows.{rows};
 ghost use Rattle.loop_records.specs.Record.{noLoop};
-ghost use Rattle.loop_records.specs.Loops.{wrapAlong, signOf, recordOf, recordsFrom};
+ghost use Rattle.loop_records.specs.Loops.{signOf, recordOf, recordsFrom};
 use super::LoopRecord;
 use super::no_loop;
 use loops::rows::net_wrap;
@@ -16,15 +16,6 @@ use loops::rows::signed_area;
 use surfaces::surface::Period;
 use tables::corners::count;
 use tables::slices::piece_end;
-
-fn wrap_of(t: &[f64], period: Period) -> i32
-    ensures { λ r. ⌜ r ≡ wrapAlong period (us (rows (now (t .entry)))) ⌝ }
-{
-    match period {
-        Period::Every(p) => net_wrap(t, p),
-        Period::None => 0,
-    }
-}
 
 fn sign_of(wrap: i32) -> i32
     ensures { λ r. ⌜ r ≡ signOf wrap ⌝ }
@@ -42,7 +33,7 @@ fn sign_of(wrap: i32) -> i32
 fn measured(t: &[f64], start: usize, period: Period) -> LoopRecord
     ensures { λ r. ⌜ r ≡ recordOf period start (rows (now (t .entry))) ⌝ }
 {
-    let wrap = wrap_of(t, period);
+    let wrap = net_wrap(t, period);
     LoopRecord {
         start,
         count: count(t),

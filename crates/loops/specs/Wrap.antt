@@ -7,6 +7,8 @@ use Rattle.numbers.specs.Constants.{one}
 use Rattle.numbers.specs.Order.{absOf}
 use Rattle.numbers.specs.Round.{roundAway}
 use Rattle.numbers.specs.Rounded.{_⊖_, _⊘_}
+use Rattle.surfaces.specs.declared.surface.Period.{Period}
+use Rattle.surfaces.specs.declared.surface.Period.the-variants.{Every, None}
 use Rattle.loops.specs.Steps.{lastOf}
 
 abbrev pub tolerance : Float
@@ -19,7 +21,12 @@ turnsCounted turns =
     cond (le one (absOf whole) && lt (absOf (turns ⊖ whole)) tolerance) (toSigned 31 whole) (pos 0)
 
 -- The travel is from the first u to the last. A loop of fewer than two points does not wrap.
-unfoldable pub netWrap : List Float → Float → ℤ
-netWrap [] period = pos 0
-netWrap (u ∷ []) period = pos 0
-netWrap (u ∷ w ∷ us) period = turnsCounted ((lastOf w us ⊖ u) ⊘ period)
+unfoldable pub wrapEvery : Float → List Float → ℤ
+wrapEvery p [] = pos 0
+wrapEvery p (u ∷ []) = pos 0
+wrapEvery p (u ∷ w ∷ us) = turnsCounted ((lastOf w us ⊖ u) ⊘ p)
+
+-- where u does not come round, no loop wraps
+abbrev pub netWrap : Period → List Float → ℤ
+netWrap None us = pos 0
+netWrap (Every p) us = wrapEvery p us

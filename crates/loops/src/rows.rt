@@ -4,8 +4,9 @@ ghost use Prim.Native.Nat.{_+_, _%_, _<_};
 ghost use Rattle.tables.specs.Corners.{us, vs};
 ghost use Rattle.tables.specs.Rows.{rows};
 ghost use Rattle.loops.specs.Area.{areaOf};
-ghost use Rattle.loops.specs.Wrap.{netWrap};
+ghost use Rattle.loops.specs.Wrap.{netWrap, wrapEvery};
 use super::wrap::turns_counted;
+use surfaces::surface::Period;
 use tables::corners::count;
 use tables::corners::u_at;
 use tables::corners::v_at;
@@ -32,14 +33,23 @@ pub fn signed_area(t: &[f64]) -> f64
     sum * 0.5
 }
 
-// A loop carries its closing point, so its travel is from the first u to the last. An open
-// direction has the period 0.0, in which nothing wraps.
-pub fn net_wrap(t: &[f64], period: f64) -> i32
-    ensures { λ r. ⌜ r ≡ netWrap (us (rows (now (t .entry)))) period ⌝ }
+// Where u comes round every p. A loop carries its closing point, so its travel is from the first u to
+// the last.
+fn wrap_every(t: &[f64], p: f64) -> i32
+    ensures { λ r. ⌜ r ≡ wrapEvery p (us (rows (now (t .entry)))) ⌝ }
 {
     let n = count(t);
     if n < 2 {
         return 0;
     }
-    turns_counted((u_at(t, n - 1) - u_at(t, 0)) / period)
+    turns_counted((u_at(t, n - 1) - u_at(t, 0)) / p)
+}
+
+pub fn net_wrap(t: &[f64], period: Period) -> i32
+    ensures { λ r. ⌜ r ≡ netWrap period (us (rows (now (t .entry)))) ⌝ }
+{
+    match period {
+        Period::Every(p) => wrap_every(t, p),
+        Period::None => 0,
+    }
 }

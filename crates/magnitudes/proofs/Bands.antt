@@ -24,8 +24,9 @@ use Rattle.surfaces.specs.Domains.{uPeriod, vPeriod, periodLength}
 use Rattle.surfaces.specs.Rungs.{rungs, inner}
 use Rattle.surfaces.specs.Steps.{vStepsOf}
 use Rattle.surfaces.proofs.surface.Points.{point-in}
+use Rattle.loops.specs.Wrap.{netWrap}
 use Rattle.bands.specs.Band.{lift, pick, joined, lowerFirst, lowerRing, upperRing, stripOf, outer, holes}
-use Rattle.tables.specs.Corners.{Corner, Corners}
+use Rattle.tables.specs.Corners.{Corner, Corners, us}
 use Rattle.bands.specs.Given.{wraps}
 use Rattle.bands.specs.Rings.{started, reseam, laid}
 use Rattle.bands.specs.Strip.{Setting, ladder, heights, wall, strip}
@@ -34,7 +35,7 @@ use Rattle.records.specs.Accepted.{Accepted}
 use Rattle.records.specs.Face.{kind, realOf}
 use Rattle.records.specs.Limits.{plane}
 use Rattle.lists.specs.Elements.{All, and}
-use Rattle.call.specs.Face.{frameIn, surfaceOf, surfaceIn, optionsIn, loopsIn, wrapOf, measuredIn, isWrapping, wrapping, settingIn, givenIn}
+use Rattle.call.specs.Face.{frameIn, surfaceOf, surfaceIn, optionsIn, loopsIn, measuredIn, isWrapping, wrapping, settingIn, givenIn}
 use Rattle.call.proofs.Each.{all-first, all-append, all-drop, all-dropLast, all-reverse, all-if, all-map, all-so, all-dropRepeats}
 use Rattle.call.proofs.Loops.{loops-fit, given-each}
 use Rattle.call.proofs.Rings.{EachGiven, pick-each, holes-each}
@@ -56,7 +57,7 @@ module _ (s : List ℕ) where
   -- where u does not come round no loop wraps
   open-none : uPeriod (surfaceIn s) ≡ None → wrapping s ≡ 0
   unfolding wrapping measuredIn
-  open-none e = ap length (only-none isWrapping (all-map _ (λ r h. ap (λ (p : Period). wraps (wrapOf p r)) e) (loops-fit s)))
+  open-none e = ap length (only-none isWrapping (all-map _ (λ r h. ap (λ (p : Period). wraps (netWrap p (us r))) e) (loops-fit s)))
 
   module _ (some : wrapping s ≡ 0 → ⊥) where
     comes-round : uPeriod (surfaceIn s) ≡ Every TAU

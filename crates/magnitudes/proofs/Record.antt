@@ -9,7 +9,7 @@ use borrow.Author.Tests.{lt-ltb}
 use lib.Dec.{leb, lit<, lit≤}
 use lib.ListN.{length, take, drop, length-map, length-take, length-drop}
 use lib.Ieee.{Float}
-use Rattle.numbers.specs.Constants.{TAU}
+use Rattle.numbers.specs.Constants.{TAU, 10^-6}
 use Rattle.numbers.specs.Within.{Within}
 use Rattle.numbers.specs.declared.math.Vec3.{Vec3}
 use Rattle.numbers.proofs.Magnitude.{within-more}
@@ -27,7 +27,7 @@ use Rattle.records.specs.Bytes.{u16At, _=?_}
 use Rattle.lists.specs.Elements.{sum, All, none, and}
 use Rattle.records.specs.Face.{headReals, kind, loops, counts, points, realOf, parameters, uOf, vOf, cornersIn}
 use Rattle.records.specs.Face as Face
-use Rattle.records.specs.Limits.{10^6, 64·0, 1·5, 10^-6, 0·0, Range, _to_, upTo, holds, plane, cone, radius, second, uRange, vRange, headRange}
+use Rattle.records.specs.Limits.{10^6, 64·0, 1·5, 0·0, Range, _to_, upTo, holds, plane, cone, radius, second, uRange, vRange, headRange}
 use Rattle.records.proofs.Accepted.{parameters-in-range, positions-in-range, points-sum}
 use Rattle.records.proofs.Bounds.{within-billion, within-million, within-64, length-within, radius-within, none-within, angle-under}
 use Rattle.records.proofs.Ranges.{range-head}

@@ -30,7 +30,7 @@ use Rattle.records.proofs.Search.{when-fails}
 use Rattle.call.specs.Demands.{WholeDemand}
 use Rattle.call.specs.Face.{frameIn, surfaceOf, surfaceIn, optionsIn, wrapping}
 use Rattle.call.specs.Judge.{judge}
-use Rattle.call.specs.Later.{laterConditions, openSurface}
+use Rattle.call.specs.Later.{laterConditions, openSurface, openKind}
 use Rattle.call.specs.Paths.{ResultLoop, uvOf, wholeLoop, pathIn, resultLoops, resultIn}
 use Rattle.call.proofs.Demands.{passed, can-be-written, read-loops, written, over-zero}
 use Rattle.magnitudes.proofs.Record.{frame-framed, sizes-in}
@@ -65,7 +65,7 @@ past-cone k a b h =
 
 module _ (s : List ℕ) (none : loops s ≡ 0) where
   pub whole-kind : openSurface s ≡ nowhere → isWhole (surfaceIn s) ≡ true
-  unfolding openSurface surfaceIn
+  unfolding openSurface openKind surfaceIn
   whole-kind not-11 =
       let over : (kind s ≤? cone) ≡ false = ap (λ (t : Bool). t && (kind s ≤? cone)) (sym (eq-eqb (loops s) 0 none)) ∙ when-fails _ 0 .0 not-11 in
       past-cone (kind s) _ _ (leb-false (kind s) cone over)

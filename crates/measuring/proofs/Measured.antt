@@ -8,25 +8,16 @@ use lib.Ieee.{Float}
 use lib.ListN.{length, take, length-map}
 use Rattle.numbers.specs.declared.math.Vec3.{Vec3}
 use Rattle.surfaces.specs.declared.surface.Period.{Period}
-use Rattle.surfaces.specs.declared.surface.Period.the-variants.{Every, None}
 use Rattle.surfaces.specs.Domains.{uPeriod}
 use Rattle.lists.specs.Placed.{placed}
 use Rattle.lists.proofs.Placed.{front-placed}
+use Rattle.loops.specs.Wrap.{netWrap}
 use Rattle.tables.specs.Corners.{Corners, us}
 use Rattle.loop_records.specs.declared.LoopRecord.{LoopRecord}
-use Rattle.call.specs.Face.{surfaceIn, loopsIn, wrapOf, measuredIn}
+use Rattle.call.specs.Face.{surfaceIn, loopsIn, measuredIn, wrapsIn}
 use Rattle.call.specs.Paths.{signedArea}
-use Rattle.loop_records.specs.Loops.{wrapAlong, recordOf, recordsFrom}
+use Rattle.loop_records.specs.Loops.{recordOf, recordsFrom}
 use Rattle.loop_records.proofs.Recorded.{length-records, wraps-recorded}
-use Rattle.measuring.specs.Loops.{wrapsIn}
-
-same-wrap : (p : Period) (loop : Corners Vec3) → wrapAlong p (us loop) ≡ wrapOf p loop
-same-wrap None loop = refl
-same-wrap (Every p) loop = refl
-
-wraps-along : (p : Period) (ls : List (Corners Vec3)) → map (λ (r : Corners Vec3). wrapAlong p (us r)) ls ≡ map (wrapOf p) ls
-wraps-along p [] = refl
-wraps-along p (l ∷ ls) = λ i. same-wrap p l i ∷ wraps-along p ls i
 
 areas-along : (p : Period) (start : ℕ) (ls : List (Corners Vec3)) → map (λ (l : LoopRecord). l .area) (recordsFrom p start ls) ≡ map signedArea ls
 unfolding recordsFrom recordOf
@@ -41,7 +32,7 @@ front-read f p ls n b₀ b e room h =
     (λ i. take (sym many i) (h i)) ∙ front-placed (map f (recordsFrom p 0 ls)) b₀ (omega arith)
 
 module _ (s : List ℕ) (ls : List (Corners Vec3)) (held : ls ≡ loopsIn s) (n : ℕ) (n-is : n ≡ length ls) where
-  wraps-measured : wrapsIn s ≡ map (wrapOf (uPeriod (surfaceIn s))) (loopsIn s)
+  wraps-measured : wrapsIn s ≡ map (λ (r : Corners Vec3). netWrap (uPeriod (surfaceIn s)) (us r)) (loopsIn s)
   unfolding measuredIn
   wraps-measured = map-map _ _ (loopsIn s)
 
@@ -49,7 +40,7 @@ module _ (s : List ℕ) (ls : List (Corners Vec3)) (held : ls ≡ loopsIn s) (n 
   pub wraps-shown : (w₀ w : List ℤ) → n ≤ length w₀ → w ≡ placed 0 (map (λ (l : LoopRecord). l .wrap) (recordsFrom (uPeriod (surfaceIn s)) 0 ls)) w₀ → take n w ≡ wrapsIn s
   wraps-shown w₀ w room e =
       front-read (λ (l : LoopRecord). l .wrap) (uPeriod (surfaceIn s)) ls n w₀ w n-is room e
-      ∙ wraps-recorded (uPeriod (surfaceIn s)) 0 ls ∙ wraps-along (uPeriod (surfaceIn s)) ls ∙ ap (map (wrapOf (uPeriod (surfaceIn s)))) held ∙ sym wraps-measured
+      ∙ wraps-recorded (uPeriod (surfaceIn s)) 0 ls ∙ ap (map (λ (r : Corners Vec3). netWrap (uPeriod (surfaceIn s)) (us r))) held ∙ sym wraps-measured
 
 -- and the areas
 pub areas-shown : (p : Period) (ls : List (Corners Vec3)) (n : ℕ) (a₀ a : List Float) → n ≡ length ls → n ≤ length a₀

@@ -13,11 +13,10 @@ use Rattle.bands.specs.Given.{Measured, loopOf, givenOf}
 use Rattle.lists.specs.Elements.{only}
 use Rattle.records.specs.Refusals.{at, firstWhere}
 use Rattle.records.proofs.Search.{nowhere≢at, first-holds}
-use Rattle.call.specs.Face.{measuredIn, isWrapping, wrapping, givenIn}
-use Rattle.call.specs.Later.{loopIn}
-use Rattle.measuring.specs.Refusals.{wrapsAt, lastWhere}
-use Rattle.measuring.specs.Loops.{wrapsIn}
-use Rattle.measuring.proofs.Judged.{none, wraps-in}
+use Rattle.call.specs.Face.{measuredIn, isWrapping, wrapping, givenIn, wrapsIn}
+use Rattle.call.proofs.Judged.{loopIn, none, wraps-in}
+use Rattle.call.specs.Later.{wrapsAt}
+use Rattle.measuring.specs.LastWhere.{lastWhere}
 
 -- ---- what is found last, in plain facts
 

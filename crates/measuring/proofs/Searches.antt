@@ -24,7 +24,8 @@ use Rattle.bands.specs.Given.{wraps}
 use Rattle.lists.specs.Elements.{only}
 use Rattle.records.specs.Refusals.{Place, nowhere, at, firstWhere}
 use Rattle.records.proofs.Search.{Seeking, seek-found, seek-end}
-use Rattle.measuring.specs.Refusals.{wrapsAt, openAt, openAmong, wrappingOf, lastWhere, oneAmong, manyAmong, openKind}
+use Rattle.call.specs.Later.{wrapsAt, openAt, openAmong, wrappingOf, oneAmong, manyAmong, openKind}
+use Rattle.measuring.specs.LastWhere.{lastWhere}
 
 -- ---- a wrap that is not 0: the code compares bits
 

@@ -1,3 +1,2 @@
 pub mod Head
-pub mod Loops
-pub mod Refusals
+pub mod LastWhere

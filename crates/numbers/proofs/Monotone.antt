@@ -114,11 +114,6 @@ neg-finite nan h = h
 neg-finite (inf s) h = absurd h
 neg-finite (fin s m e) h = tt
 
--- a difference grows with what it is taken from, and falls with what is taken off
-pub sub-mono-left : (f : Format) (c x y : Float) → T (finite c) → T (finite x) → T (finite y) → T (le x y) → T (le (sub f x c) (sub f y c))
-unfolding sub
-sub-mono-left f c x y p q r h = add-mono-left f (neg c) x y (neg-finite c p) q r h
-
 pub sub-anti-right : (f : Format) (c x y : Float) → T (finite c) → T (le x y) → T (le (sub f c y) (sub f c x))
 unfolding sub
 sub-anti-right f c x y p h = add-mono-right f c (neg y) (neg x) p (le-neg x y h)
@@ -137,9 +132,6 @@ mul-rounded f (inf s) y p q = absurd p
 mul-rounded f (fin s m e) nan p q = absurd q
 mul-rounded f (fin s m e) (inf t) p q = absurd q
 mul-rounded f (fin s m e) (fin t n d) p q = unlike-rounded f s t (m * up e) (n * up d) (down e * down d)
-
-pub mul-number : (f : Format) (x y : Float) → T (finite x) → T (finite y) → T (number (mul f x y))
-mul-number f x y p q = rounded-number f (mul f x y) (plus x * plus y + less x * less y) (plus x * less y + less x * plus y) (den x * den y) (mul-rounded f x y p q)
 
 mul-cross : (pc qc dc px qx dx py qy dy : ℕ) → qc ≤ pc → px * dy + qy * dx ≤ py * dx + qx * dy
     → (pc * px + qc * qx) * (dc * dy) + (pc * qy + qc * py) * (dc * dx) ≤ (pc * py + qc * qy) * (dc * dx) + (pc * qx + qc * px) * (dc * dy)

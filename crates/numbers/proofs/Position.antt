@@ -1,11 +1,10 @@
 -- Positions that are one as numbers: symmetric, transitive, and reflexive where no coordinate is a NaN.
 use mathlib.Core.Path.{_≡_}
-use mathlib.Core.Bool.{true, not, _&&_}
-use lib.Dec.{T}
-use lib.Ieee.{eq, isNan}
+use mathlib.Core.Bool.{true, _&&_}
+use lib.Ieee.{eq}
 use Rattle.numbers.specs.declared.math.Vec3.{Vec3}
 use Rattle.numbers.specs.Position.{same}
-use Rattle.numbers.proofs.Equality.{and-both, and-left, and-right, eq-sym, eq-trans, eq-refl}
+use Rattle.numbers.proofs.Equality.{and-both, and-left, and-right, eq-sym, eq-trans}
 
 record Same (a b : Vec3) : Type 0 where
   at-x : eq (a .x) (b .x) ≡ true
@@ -36,6 +35,3 @@ same-trans a b c h k =
     let s = same-of a b h in
     let t = same-of b c k in
     of-same a c (record { at-x = eq-trans _ _ _ (s .at-x) (t .at-x); at-y = eq-trans _ _ _ (s .at-y) (t .at-y); at-z = eq-trans _ _ _ (s .at-z) (t .at-z) })
-
-pub same-refl : (a : Vec3) → T (not (isNan (a .x))) → T (not (isNan (a .y))) → T (not (isNan (a .z))) → same a a ≡ true
-same-refl a x y z = of-same a a (record { at-x = eq-refl _ x; at-y = eq-refl _ y; at-z = eq-refl _ z })

@@ -3,7 +3,7 @@
 use mathlib.Core.Path.{_≡_, refl, sym, ap, _∙_, subst}
 use mathlib.Core.Logic.{_⊎_, inl, inr}
 use Prim.Native.Nat.{ℕ, zero, suc, _+_, _*_, _^_, _≤_, _<_}
-use native.Mathlib.Nat.{le-of-lt, lt-irrefl, zero-mul, mul-le-mul-right, le-of-mul-le-mul-right, mul-pos, zero-lt-suc, eq-or-lt-of-le}
+use native.Mathlib.Nat.{lt-irrefl, zero-mul, mul-le-mul-right, le-of-mul-le-mul-right, mul-pos, zero-lt-suc, eq-or-lt-of-le}
 use native.Mathlib.Omega.{arith}
 use mathlib.Core.Bool.{Bool, true, false, not, _&&_, _||_, cond, true≢false}
 use lib.IntN.{pos}
@@ -176,13 +176,6 @@ top-le (inf true) h = absurd h
 top-le (inf false) h = refl
 top-le (fin s m e) h = absurd h
 
-pub le-of-bottom : (x : Float) → T (le x (inf true)) → x ≡ inf true
-unfolding le
-le-of-bottom nan h = absurd h
-le-of-bottom (inf true) h = refl
-le-of-bottom (inf false) h = absurd h
-le-of-bottom (fin s m e) h = absurd h
-
 pub le-refl : (x : Float) → T (number x) → T (le x x)
 unfolding le
 le-refl nan h = h
@@ -315,27 +308,6 @@ rounded-mono f x y p q c p' q' c' C C' (under a e h) (under b g k) l =
     rw (h, k, true-is f a c, true-is f b c') (le-neg (round f false b c') (round f false a c) (round-mono f b c' a c C' C (omega arith)))
 
 -- ---- two numbers are in one order or the other, and `lt` is what is not the other way round
-le-or : (a b : ℕ) → (a ≤ b) ⊎ (b ≤ a)
-le-or a b = go (native.Mathlib.Decide.decLe a b)
-  where
-    go : Dec (a ≤ b) → (a ≤ b) ⊎ (b ≤ a)
-    go (yes h) = inl h
-    go (no h) = inr (le-of-lt (native.Mathlib.Nat.lt-of-not-le h))
-
-pub le-total : (x y : Float) → T (number x) → T (number y) → T (le x y) ⊎ T (le y x)
-le-total nan y p q = absurd p
-le-total (inf true) y p q = inl (le-bottom y q)
-le-total (inf false) y p q = inr (le-top y q)
-le-total (fin s m e) nan p q = absurd q
-le-total (fin s m e) (inf true) p q = inr (le-bottom (fin s m e) p)
-le-total (fin s m e) (inf false) p q = inl (le-top (fin s m e) p)
-le-total (fin s m e) (fin t n d) p q = go (le-or (keep s (m * up e) * down d + turn t (n * up d) * down e) (keep t (n * up d) * down e + turn s (m * up e) * down d))
-  where
-    go : (keep s (m * up e) * down d + turn t (n * up d) * down e ≤ keep t (n * up d) * down e + turn s (m * up e) * down d) ⊎ (keep t (n * up d) * down e + turn s (m * up e) * down d ≤ keep s (m * up e) * down d + turn t (n * up d) * down e)
-        → T (le (fin s m e) (fin t n d)) ⊎ T (le (fin t n d) (fin s m e))
-    go (inl h) = inl (cross→le (fin s m e) (fin t n d) tt tt (record { holds = h }))
-    go (inr h) = inr (cross→le (fin t n d) (fin s m e) tt tt (record { holds = h }))
-
 pub not-less : (x y : Float) → T (le x y) → lt y x ≡ false
 unfolding le lt
 not-less nan y h = absurd h

@@ -117,28 +117,6 @@ plus-zero (fin s (suc m) e) f h =
     rw (plus-zero-is, some-plus s m e false (pos 0), mul-one a, mul-one (down e)) (value-eq (round binary64 s a (down e)) s (suc m) e v)
 
 -- ---- differences
-sum-self : (s : Bool) (a c : ℕ) → 0 < c → sum binary64 s a (not s) a c ≡ nil false
-unfolding sum
-sum-self s a c h = go s
-  where
-    less : (s : Bool) → cond (ltb a a) (round binary64 (not s) (a - a) c) (round binary64 (s && ltb a a) (a - a) c) ≡ round binary64 (s && false) (a - a) c
-    less s =
-        let z : a ≤ a = omega arith in
-        ap (λ (b : Bool). cond b (round binary64 (not s) (a - a) c) (round binary64 (s && b) (a - a) c)) (le-ltb a a z)
-
-    none : round binary64 false (a - a) c ≡ nil false
-    none = let d : a - a ≡ 0 = omega arith in ap (λ (n : ℕ). round binary64 false n c) d ∙ zero-is binary64 false c h
-
-    go : (s : Bool) → cond (Bool·beq s (not s)) (round binary64 s (a + a) c) (cond (ltb a a) (round binary64 (not s) (a - a) c) (round binary64 (s && ltb a a) (a - a) c)) ≡ nil false
-    go true = less true ∙ none
-    go false = less false ∙ none
-
-pub minus-self : (x : Float) → T (finite x) → x ⊖ x ≡ nil false
-unfolding sub add neg
-minus-self nan h = absurd h
-minus-self (inf s) h = absurd h
-minus-self (fin s m e) h = sum-self s (m * up e * down e) (down e * down e) (mul-pos (down-pos e) (down-pos e))
-
 signed : Float → Bool
 signed nan = false
 signed (inf s) = s

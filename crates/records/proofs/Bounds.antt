@@ -11,7 +11,8 @@ use Rattle.numbers.proofs.Equality.{and-left, and-right}
 use Rattle.numbers.proofs.Fractions.{Under, under-tests}
 use Rattle.numbers.proofs.Magnitude.{within-tests}
 use Rattle.numbers.proofs.Signed.{le-trans-float}
-use Rattle.records.specs.Limits.{10^9, 10^6, 64·0, 1·5, 10^-6, 0·0, _to_, upTo, finite, holds}
+use Rattle.records.specs.Limits.{10^9, 10^6, 64·0, 1·5, 0·0, _to_, upTo, finite, holds}
+use Rattle.numbers.specs.Constants.{10^-6}
 use Rattle.records.specs.Values.{bounds}
 
 -- the two comparisons of a range

@@ -8,7 +8,7 @@ use Rattle.lists.specs.Pieces.{pieces}
 use Rattle.numbers.specs.declared.math.Vec2.{Vec2}
 use Rattle.numbers.specs.declared.math.Vec3.{Vec3}
 use Rattle.lists.specs.Elements.{sum, All}
-use Rattle.records.specs.Result.{Short, Fits, FitsUv, FitsXyz, Writable, Loop, cornersOf, countOf, areaOf, resultOf, loopParametersOf, loopPositionsOf}
+use Rattle.records.specs.Result.{Short, Fits, FitsUv, FitsXyz, Writable, Loop, cornersOf, countOf, areaOf, resultOf, loopPositionsOf}
 
 module _ {C : Type 0} where
   pub sum-counts : (ls : List (Loop C)) → sum (map countOf ls) ≡ length (cornersOf ls)
@@ -27,10 +27,6 @@ module _ {C : Type 0} where
       (ap (λ (r : List (List B)). map f (l .corners) ∷ r) (cut f ls))
 
   module _ (toUv : C → Vec2) (toXyz : C → Vec3) (path : ℕ) (ls : List (Loop C)) where
-    pub loop-parameters : loopParametersOf (resultOf toUv toXyz path ls) ≡ map (λ (l : Loop C). map toUv (l .corners)) ls
-    unfolding loopParametersOf resultOf
-    loop-parameters = cut toUv ls
-
     pub loop-positions : loopPositionsOf (resultOf toUv toXyz path ls) ≡ map (λ (l : Loop C). map toXyz (l .corners)) ls
     unfolding loopPositionsOf resultOf
     loop-positions = cut toXyz ls

@@ -2,7 +2,7 @@
 -- the header and the counts, and 6 gives the length needed, not the length found. So a caller need not read further.
 use mathlib.Core.Path.{_≡_, refl, sym, ap, _∙_}
 use mathlib.Core.Bool.{Bool, true, false}
-use mathlib.Core.List.{List, [], _∷_, _++_}
+use mathlib.Core.List.{List, _∷_, _++_}
 use Prim.Native.Nat.{ℕ, zero, suc, _+_, _*_, _≤_, _<_}
 use native.Mathlib.Omega.{arith}
 use lib.ListN.{length, getD, take, length-take}
@@ -146,10 +146,6 @@ module _ (L : Limits) (s : List ℕ) where
       go : (b : Bool) → (longest L <? length s) ≡ b → A (take (suc (longest L)) s)
       go true e = long (ltb-true (longest L) (length s) e)
       go false e = let l = ltb-false (longest L) (length s) e in rw (take-all (suc (longest L)) s (omega arith)) whole
-
-  pub verdict-prefix : verdict (recordConditions L) (take (suc (longest L)) s) ≡ verdict (recordConditions L) s
-  verdict-prefix = cut (λ r. verdict (recordConditions L) r ≡ verdict (recordConditions L) s) refl
-      (λ long. long-alike L s long (λ v. v) (λ v. v) (λ n p. refl) [])
 
   pub judge-prefix : (more : List Condition) (result : List ℕ → List ℕ) (lent : ℕ)
       → judge L more result lent (take (suc (longest L)) s) ≡ judge L more result lent s

@@ -47,10 +47,6 @@ and-left : (a b : Bool) → (a && b) ≡ true → a ≡ true
 and-left true b e = refl
 and-left false b e = e
 
-pub holds-finite : (r : Range) (x : Float) → holds r x ≡ true → finite x ≡ true
-unfolding holds
-holds-finite (a to b) x e = and-left (finite x) (le a x && le x b) e
-
 -- ---- what the code finds, where its two comparisons are known
 
 pub within : (R : Range) (a b x : Float) (r : Bool) → R ≡ (a to b) → finite a ≡ true → finite b ≡ true → r ≡ (le a x && le x b) → r ≡ holds R x

@@ -19,7 +19,7 @@ pub record Encodable (L : Limits) : Type 0 where
   -- the bytes that are to be lent hold every result
   pub enough : resultLength (L .loops) (mostCorners L) ≤ L .result
   -- a place of refusal 1 takes four bytes, as those of the others do where few points are given
-  pub near : L .result < 4294967296
+  pub place-fits : L .result < 4294967296
 
 pub version1-encodable : Encodable version1
-version1-encodable = record { few-holes = omega arith; short-loops = omega arith; whole-fits = omega arith; enough = omega arith; near = omega arith }
+version1-encodable = record { few-holes = omega arith; short-loops = omega arith; whole-fits = omega arith; enough = omega arith; place-fits = omega arith }

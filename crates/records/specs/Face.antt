@@ -68,10 +68,6 @@ parameters s = rowAt uvAt 16 s (realPlace s headReals) (points s)
 unfoldable pub positions : List ℕ → List Vec3
 positions s = rowAt xyzAt 24 s (realPlace s (headReals + 2 * points s)) (points s)
 
--- the points of each loop
-unfoldable pub loopParameters : List ℕ → List (List Vec2)
-loopParameters s = pieces (counts s) (parameters s)
-
 unfoldable pub loopPositions : List ℕ → List (List Vec3)
 loopPositions s = pieces (counts s) (positions s)
 

@@ -2,6 +2,7 @@
 use Prim.Native.Nat.{ℕ, _+_, _-_, _*_, _%_}
 use mathlib.Core.Bool.{Bool, true, false, _&&_, cond}
 use lib.Ieee.{Float, nan, inf, fin, binary64, ofBits, le, neg}
+use Rattle.numbers.specs.Constants.{10^-3, 10^-6}
 use Rattle.records.specs.declared.limits.Limits.{Limits}
 use Rattle.records.specs.Bytes.{_<?_, _≤?_, _=?_}
 use Rattle.records.specs.Face.{headReals}
@@ -31,12 +32,6 @@ abbrev pub 64·0 : Float
 
 abbrev pub 1·5 : Float
 1·5 = ofBits binary64 0x3ff8_0000_0000_0000
-
-abbrev pub 0·001 : Float
-0·001 = ofBits binary64 0x3f50_624d_d2f1_a9fc
-
-abbrev pub 10^-6 : Float
-10^-6 = ofBits binary64 0x3eb0_c6f7_a0b5_ed8d
 
 abbrev pub 0·0 : Float
 0·0 = ofBits binary64 0
@@ -97,7 +92,7 @@ headRange kind i =
     cond (i <? 9) (upTo 10^9)
     (cond (i =? 9) (radius kind)
     (cond (i =? 10) (second kind)
-    (cond (i =? 11) (10^-6 to 10^3) (0·001 to 1·5))))
+    (cond (i =? 11) (10^-6 to 10^3) (10^-3 to 1·5))))
 
 -- parameter real j, from 0: u and v in turn
 unfoldable pub uvRange : ℕ → ℕ → Range

@@ -83,11 +83,11 @@ infix 70 _on_
 abbrev pub _on_ : ℕ → (List ℕ → Place) → Condition
 number on place = record { number = number; place = place }
 
--- "Checks run in that order, except that the two halves of 6 stand before 4 and after 5." That of the header, which no limit touches:
+-- that of the header, which no limit touches
 abbrev pub headerConditions : List Condition
 headerConditions = 2 on wrongHeader ∷ []
 
--- those of what follows it
+-- "Checks run in that order, except that the two halves of 6 stand before 4 and after 5.": those of what follows it
 abbrev pub bodyConditions : Limits → List Condition
 bodyConditions L =
     3 on tooManyLoops L

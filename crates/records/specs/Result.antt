@@ -85,9 +85,6 @@ decode b = record {
 
 -- ---- loop by loop, the outer loop first
 
-unfoldable pub loopParametersOf : Result → List (List Vec2)
-loopParametersOf r = pieces (r .counts) (r .parameters)
-
 unfoldable pub loopPositionsOf : Result → List (List Vec3)
 loopPositionsOf r = pieces (r .counts) (r .positions)
 

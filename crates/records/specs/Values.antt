@@ -8,7 +8,8 @@ use lib.Ieee.{Float, binary64, round, ofBits, toBits, odd, ofFields, le, lt, eq,
 use Rattle.records.specs.Bytes.{number, numberAt, realAt, uvAt, xyzAt, rowAt, bytes, real, uv, xyz, row}
 use Rattle.lists.specs.Elements.{sum}
 use Rattle.records.specs.Face.{start}
-use Rattle.records.specs.Limits.{version1, 10^9, 10^6, 10^3, 64·0, 1·5, 0·001, 10^-6, 0·0, plane, cylinder, cone, sphere, torus, holds, headRange, radius, second, uvRange, uRange, vRange, range}
+use Rattle.records.specs.Limits.{version1, 10^9, 10^6, 10^3, 64·0, 1·5, 0·0, plane, cylinder, cone, sphere, torus, holds, headRange, radius, second, uvRange, uRange, vRange, range}
+use Rattle.numbers.specs.Constants.{10^-3, 10^-6}
 use Rattle.records.specs.Refusals.{Verdict, passes, refuses, Condition, conditions, verdict, firstFrom, tooFewLent, wrongByte, wrongHeader, tooManyLoops, endsInCounts, tooFewPoints, tooManyPoints, wrongLength, badReal, firstBadReal}
 use Rattle.records.specs.Result.{Result, encode, decode, countsIn, cornersIn}
 use Rattle.records.specs.Call.{judge, output}
@@ -21,7 +22,7 @@ pub record Bounds : Type 0 where
   pub is-10^3 : round binary64 false 1000 1 ≡ 10^3
   pub is-64·0 : round binary64 false 64 1 ≡ 64·0
   pub is-1·5 : round binary64 false 3 2 ≡ 1·5
-  pub is-0·001 : round binary64 false 1 1000 ≡ 0·001
+  pub is-10^-3 : round binary64 false 1 1000 ≡ 10^-3
   pub is-10^-6 : round binary64 false 1 1000000 ≡ 10^-6
   pub is-0·0 : round binary64 false 0 1 ≡ 0·0
 
@@ -33,7 +34,7 @@ bounds = record {
   is-10^3 = refl;
   is-64·0 = refl;
   is-1·5 = refl;
-  is-0·001 = refl;
+  is-10^-3 = refl;
   is-10^-6 = refl;
   is-0·0 = refl;
 }
@@ -58,7 +59,7 @@ triangle =
     (1 ∷ 0 ∷ 1 ∷ 1 ∷ 1 ∷ 3 ∷ 0 ∷ [])
     ++ row real (
     0·0 ∷ 0·0 ∷ 0·0 ∷ 0·0 ∷ 0·0 ∷ 1·0 ∷ 1·0 ∷ 0·0 ∷ 0·0 ∷  -- origin, axis, reference direction
-    0·0 ∷ 0·0 ∷ 10^-6 ∷ 0·001 ∷  -- radius, second size, sag, angle
+    0·0 ∷ 0·0 ∷ 10^-6 ∷ 10^-3 ∷  -- radius, second size, sag, angle
     0·0 ∷ 0·0 ∷ 4·0 ∷ 0·0 ∷ 0·0 ∷ 3·0 ∷  -- (u, v)
     0·0 ∷ 0·0 ∷ 0·0 ∷ 4·0 ∷ 0·0 ∷ 0·0 ∷ 0·0 ∷ 3·0 ∷ 0·0 ∷ [])  -- (x, y, z)
 
@@ -184,7 +185,7 @@ pub record Ranges : Type 0 where
   pub minor-radius : (least torus 10 10^-6 && most torus 10 10^6) ≡ true
   pub no-second-size : (leastZero plane 10 && (most plane 10 0·0 && (most cylinder 10 0·0 && most sphere 10 0·0))) ≡ true
   pub sag : (least plane 11 10^-6 && most plane 11 10^3) ≡ true
-  pub angle : (least plane 12 0·001 && most plane 12 1·5) ≡ true
+  pub angle : (least plane 12 10^-3 && most plane 12 1·5) ≡ true
   pub u-of-plane : size plane 13 10^6 ≡ true
   pub u-of-others : (size cylinder 13 64·0 && (size cone 13 64·0 && (size sphere 13 64·0 && size torus 13 64·0))) ≡ true
   pub v-of-three : (size plane 14 10^6 && (size cylinder 14 10^6 && size cone 14 10^6)) ≡ true

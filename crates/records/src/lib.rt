@@ -1,5 +1,4 @@
-// The face record and the result record as bytes: the check of a face record, reading it, and
-// writing a result record.
+// The face record as bytes: its limits, its check, and reading it.
 ghost use mathlib.Core.Path.{_≡_};
 ghost use Prim.Native.Nat.{_+_, _*_, _^_, _≤_, _<_};
 ghost use lib.ListN.{length, getD};

@@ -1,4 +1,4 @@
-// How much the records of a version may hold.
+// How large a face may be in a version, and how many bytes are to be lent for its result.
 ghost use mathlib.Core.Path.{_≡_};
 ghost use Rattle.records.specs.Limits.{version1};
 

@@ -91,7 +91,7 @@ module _ {A : Type 0} (z : A) (f g : A → A) where
           e₂ ∙ ap (onPart (map g) 0 n) d₁
           ∙ on-part (map g) [] (begun f k points) (y ∷ []) 0 n refl (let l = length-points in let b = length-begun f k points in omega arith)
 
--- ---- the guards of `turn_unless`, `align_cuts` and the moves
+-- ---- the guards of `begin_ring_at`, `align_cuts` and the moves
 
 module _ {A : Type 0} (f : A → A) (k : ℕ) (a : List A) where
   -- put on no branch

@@ -15,7 +15,7 @@ module _ (period : Float) (first later : Corners Vec3) where
   unfoldable pub served : Bool
   served = ltb (firstServing period first later) (starts period first)
 
-  -- how many were tried: "the number of the chosen start plus one, or all where none serves"
+  -- how many were tried, 02, N10: "the number of the chosen start plus one, or all where none serves"
   unfoldable pub tried : ℕ
   tried = cond served (firstServing period first later + 1) (starts period first)
 

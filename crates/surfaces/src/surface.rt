@@ -2,7 +2,7 @@
 // the operation order of the Rust, and parameter domains.
 ghost use mathlib.Core.Path.{_≡_};
 ghost use Rattle.surfaces.specs.Points.{planeOf, raisedOf, sphereOf, torusOf, pointOf};
-ghost use Rattle.surfaces.specs.Domains.{unbounded, fullTurn, uPeriod, vPeriod, uRange, vRange, coneRange, domainOf};
+ghost use Rattle.surfaces.specs.Domains.{unbounded, fullTurn, uPeriod, vPeriod, uRange, vRange, coneRange, domainOf, periodLength};
 use numbers::math::Frame;
 use numbers::math::Interval;
 use numbers::math::Vec2;
@@ -41,6 +41,18 @@ pub enum Surface {
 pub enum Period {
     Every(f64),
     None,
+}
+
+impl Period {
+    // 0 where the parameter does not come round.
+    pub fn length(self) -> f64
+        ensures { λ r. ⌜ r ≡ periodLength self ⌝ }
+    {
+        match self {
+            Period::Every(p) => p,
+            Period::None => 0.0,
+        }
+    }
 }
 
 pub struct Domain {

@@ -6,12 +6,12 @@ use Rattle.tables.specs.Corners.{Corner, Corners}
 use Rattle.tables.specs.declared.columns.Column.{Column}
 use Rattle.tables.specs.declared.columns.Column.the-variants.{ParamU, ParamV, CoordX, CoordY, CoordZ}
 
-abbrev pub partOf : Column → Corner Vec3 → Float
-partOf ParamU c = c .u
-partOf ParamV c = c .v
-partOf CoordX c = c .at .x
-partOf CoordY c = c .at .y
-partOf CoordZ c = c .at .z
+abbrev pub entryOf : Column → Corner Vec3 → Float
+entryOf ParamU c = c .u
+entryOf ParamV c = c .v
+entryOf CoordX c = c .at .x
+entryOf CoordY c = c .at .y
+entryOf CoordZ c = c .at .z
 
 -- as many corners as the shortest list has elements
 unfoldable pub cornersOf : List Float → List Float → List Float → List Float → List Float → Corners Vec3

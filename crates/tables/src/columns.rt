@@ -3,7 +3,7 @@
 ghost use mathlib.Core.Path.{_≡_};
 ghost use mathlib.Core.List.{map};
 ghost use Rattle.lists.specs.Placed.{placed};
-ghost use Rattle.tables.specs.Columns.{partOf, cornersOf};
+ghost use Rattle.tables.specs.Columns.{entryOf, cornersOf};
 ghost use Rattle.tables.specs.Corners.{us, vs, xs, ys, zs};
 ghost use Rattle.tables.specs.Rows.{rows, cornerOf};
 use super::corners::Corner;
@@ -21,8 +21,8 @@ pub enum Column {
     CoordZ,
 }
 
-fn part_of(c: Corner, which: Column) -> f64
-    ensures { λ r. ⌜ r ≡ partOf which (cornerOf c) ⌝ }
+fn entry_of(c: Corner, which: Column) -> f64
+    ensures { λ r. ⌜ r ≡ entryOf which (cornerOf c) ⌝ }
 {
     match which {
         Column::ParamU => c.u,
@@ -34,7 +34,7 @@ fn part_of(c: Corner, which: Column) -> f64
 }
 
 fn column_into(dst: &mut [f64], t: &[f64], which: Column)
-    ensures { λ _. ⌜ now (dst .exit) ≡ placed 0 (map (partOf which) (rows (now (t .entry)))) (now (dst .entry)) ⌝ }
+    ensures { λ _. ⌜ now (dst .exit) ≡ placed 0 (map (entryOf which) (rows (now (t .entry)))) (now (dst .entry)) ⌝ }
 {
     let n = count(t);
     if dst.len() < n {
@@ -42,7 +42,7 @@ fn column_into(dst: &mut [f64], t: &[f64], which: Column)
     }
     let mut i = 0;
     while i < n {
-        dst[i] = part_of(corner_at(t, i), which);
+        dst[i] = entry_of(corner_at(t, i), which);
         i += 1;
     }
 }

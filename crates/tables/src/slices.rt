@@ -1,11 +1,10 @@
 // Passes over one slice of reals, for slices of any length. What does not fit is not written: each
 // contract says by `placed` that nothing changes then.
 ghost use mathlib.Core.Path.{_≡_};
-ghost use mathlib.Core.List.{reverse};
 ghost use Prim.Native.Nat.{_+_, min};
 ghost use lib.Dec.{leb};
 ghost use lib.Ieee.{nan};
-ghost use lib.ListN.{length, getD, set, replicate};
+ghost use lib.ListN.{getD, set};
 ghost use Rattle.lists.specs.Parts.{partOf};
 ghost use Rattle.lists.specs.Placed.{placed};
 
@@ -36,7 +35,7 @@ pub fn put(s: &mut [f64], i: usize, x: f64)
 }
 
 // Whether n elements from `from` on are within `room`, without a sum that could wrap.
-fn has_room(room: usize, from: usize, n: usize) -> bool
+pub fn has_room(room: usize, from: usize, n: usize) -> bool
     ensures { λ r. ⌜ r ≡ leb (from + n) room ⌝ }
 {
     if room < n {
@@ -56,35 +55,6 @@ pub fn copy_into(dst: &mut [f64], from: usize, src: &[f64])
     let mut i = 0;
     while i < n {
         dst[from + i] = src[i];
-        i += 1;
-    }
-}
-
-// src backward into dst, from `from` on.
-pub fn reverse_into(dst: &mut [f64], from: usize, src: &[f64])
-    ensures { λ _. ⌜ now (dst .exit) ≡ placed from (reverse (now (src .entry))) (now (dst .entry)) ⌝ }
-{
-    let n = src.len();
-    if !has_room(dst.len(), from, n) {
-        return;
-    }
-    let mut i = 0;
-    while i < n {
-        dst[from + i] = src[n - 1 - i];
-        i += 1;
-    }
-}
-
-// n times x into dst, from `from` on.
-pub fn fill(dst: &mut [f64], from: usize, n: usize, x: f64)
-    ensures { λ _. ⌜ now (dst .exit) ≡ placed from (replicate n x) (now (dst .entry)) ⌝ }
-{
-    if !has_room(dst.len(), from, n) {
-        return;
-    }
-    let mut i = 0;
-    while i < n {
-        dst[from + i] = x;
         i += 1;
     }
 }

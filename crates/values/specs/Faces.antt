@@ -28,7 +28,7 @@ use Rattle.loops.specs.Repeats.{dropMerging, dropSuccessive, dropTrailing, kept
 use Rattle.loops.specs.Rings.{endsMeet, begun, closed as ringClosed, turned}
 use Rattle.loops.specs.Span.{leastOf, greatestOf}
 use Rattle.loops.specs.Steps.{net, netOf, count, stepsRound, stepsAlong}
-use Rattle.loops.specs.Wrap.{netWrap, turnsCounted}
+use Rattle.loops.specs.Wrap.{wrapEvery, turnsCounted}
 use Rattle.rings.specs.Choices.{leastU, greatestU, firstPast, firstOpenPast, stripShift, straddles, nearest, firstLeast, firstFrom as startFrom, serve, beginsBackward, standsAtTheCut}
 use Rattle.rings.specs.Starts.{serves, firstServing, start as startOf, alignCuts, slideToCut}
 use Rattle.tables.specs.Moves.{unlessZero}
@@ -48,7 +48,7 @@ use Rattle.records.specs.Refusals.{verdict, firstFrom, tooFewLent, wrongByte, w
 use Rattle.records.specs.Result.{encode, decode, countsIn, cornersIn as cornersBack, loopPositionsOf, resultOf, cornersOf as together}
 use Rattle.tables.specs.Corners.{cornersFrom}
 use Rattle.call.specs.Face.{frameIn, surfaceOf, surfaceIn, optionsIn, senseIn, loopsIn, measuredIn, wrapping, settingIn, givenIn}
-use Rattle.call.specs.Later.{loopIn, openRing, oneRing, manyRings, openSurface, stripPoints, longStrip}
+use Rattle.call.specs.Later.{wrapsAt, openAt, wrappingOf, openAmong, oneAmong, manyAmong, openKind, openRing, oneRing, manyRings, openSurface, stripPoints, longStrip}
 use Rattle.call.specs.Paths.{loopsFrom, wrappedLoops, pathIn, resultLoops, resultIn}
 use Rattle.call.specs.Judge.{judge}
 use Rattle.call.specs.Demands.{outerPositions}
@@ -199,7 +199,7 @@ pub record Faces : Type 0 where
   pub exchanged-closed : judge 61614 exchanged ≡ closed exchangedWritten
 
 pub faces : Faces
-unfolding Call.judge verdict tooFewLent wrongByte wrongHeader tooManyLoops endsInCounts tooFewPoints tooManyPoints wrongLength badReal firstBadReal firstFrom number numberAt realAt start bytes real row holds headRange radius second uvRange uRange vRange range ofBits ofFields odd toBits le lt eq ne neg add sub mul div ofInt toSigned toUnsigned absOf roundAway floorOf ceilOf sincosOf sqrtOf lengthOf directionOf normalizedOr leastAxis perpendicularOf frameOf polarOf frameIn surfaceOf surfaceIn optionsIn senseIn cornersFrom cornersIn loopsIn measuredIn wrapping settingIn givenIn loopIn openRing oneRing manyRings openSurface stripPoints longStrip loopsFrom wrappedLoops pathIn resultLoops resultIn encode resultOf together uv xyz uvAt xyzAt rowAt sum counts parameters positions pieces only uPeriod vPeriod areaOf crossSum crossAt leastOf greatestOf netWrap turnsCounted endsMeet same givenOf stripOf strip heights ladder lowerRing upperRing lowerFirst firstIsLower lift joined laid rising shifted leastU greatestU reseam hasStrip hasGap acrossSeam onStrip anyStraddles gapOf cutAnew recut firstOpenPast firstPast widestGap gapAlong sorted insert passed usable started startOf firstServing startFrom serves serve beginsBackward standsAtTheCut trial turnedUnless alignCuts alignAt turnedOnto nearest firstLeast slideToCut unlessZero turned begun ringClosed meanOf sumOf onto stripShift straddles inner rungs endedOn keptDivisions keptAfter near rungSlack divisionsFrom division vStepsOf segmentsOf angleStepOf sagAngle raisedOf torusOf pointOf outer holes dropMerging dropSuccessive dropTrailing keptFrom cutBack net netOf count stepsRound stepsAlong decode countsIn cornersBack loopPositionsOf loopPositions
+unfolding Call.judge verdict tooFewLent wrongByte wrongHeader tooManyLoops endsInCounts tooFewPoints tooManyPoints wrongLength badReal firstBadReal firstFrom number numberAt realAt start bytes real row holds headRange radius second uvRange uRange vRange range ofBits ofFields odd toBits le lt eq ne neg add sub mul div ofInt toSigned toUnsigned absOf roundAway floorOf ceilOf sincosOf sqrtOf lengthOf directionOf normalizedOr leastAxis perpendicularOf frameOf polarOf frameIn surfaceOf surfaceIn optionsIn senseIn cornersFrom cornersIn loopsIn measuredIn wrapping settingIn givenIn wrapsAt openAt wrappingOf openAmong oneAmong manyAmong openKind openRing oneRing manyRings openSurface stripPoints longStrip loopsFrom wrappedLoops pathIn resultLoops resultIn encode resultOf together uv xyz uvAt xyzAt rowAt sum counts parameters positions pieces only uPeriod vPeriod areaOf crossSum crossAt leastOf greatestOf wrapEvery turnsCounted endsMeet same givenOf stripOf strip heights ladder lowerRing upperRing lowerFirst firstIsLower lift joined laid rising shifted leastU greatestU reseam hasStrip hasGap acrossSeam onStrip anyStraddles gapOf cutAnew recut firstOpenPast firstPast widestGap gapAlong sorted insert passed usable started startOf firstServing startFrom serves serve beginsBackward standsAtTheCut trial turnedUnless alignCuts alignAt turnedOnto nearest firstLeast slideToCut unlessZero turned begun ringClosed meanOf sumOf onto stripShift straddles inner rungs endedOn keptDivisions keptAfter near rungSlack divisionsFrom division vStepsOf segmentsOf angleStepOf sagAngle raisedOf torusOf pointOf outer holes dropMerging dropSuccessive dropTrailing keptFrom cutBack net netOf count stepsRound stepsAlong decode countsIn cornersBack loopPositionsOf loopPositions
 faces = record {
   third = refl;
   two-thirds = refl;

@@ -12,8 +12,9 @@ use Rattle.numbers.specs.Sqrt.{sqrtOf}
 use Rattle.numbers.specs.Trig.{sincosOf}
 use Rattle.loops.specs.Area.{areaOf, crossSum, crossAt}
 use Rattle.loops.specs.Branch.{nearestBranch}
-use Rattle.loops.specs.Wrap.{netWrap, turnsCounted}
+use Rattle.loops.specs.Wrap.{netWrap, wrapEvery, turnsCounted}
 use Rattle.loops.specs.Rings.{begun, closed}
+use Rattle.surfaces.specs.declared.surface.Period.the-variants.{Every}
 use Rattle.surfaces.specs.Rungs.{rungs}
 use Rattle.surfaces.specs.Values.{three, halves, no-width}
 use Rattle.closed_region.specs.Table.{boxesOf}
@@ -54,11 +55,11 @@ pub record Starred : Type 0 where
   pub branch-of-6 : nearestBranch (count 6) (count 0) (count 4) ≡ neg (count 2)
   pub branch-of-5 : nearestBranch (count 5) (count 0) (count 0) ≡ count 5
   -- period 4: travel 4.5 wraps 1, 4.75 wraps 0, 3.5 wraps 1, 2 wraps 0, -8 wraps -2
-  pub wraps-4·5 : netWrap (travels (count 9 ⊘ count 2)) (count 4) ≡ pos 1
-  pub wraps-4·75 : netWrap (travels (count 19 ⊘ count 4)) (count 4) ≡ pos 0
-  pub wraps-3·5 : netWrap (travels (count 7 ⊘ count 2)) (count 4) ≡ pos 1
-  pub wraps-2 : netWrap (travels (count 2)) (count 4) ≡ pos 0
-  pub wraps-minus-8 : netWrap (travels (neg (count 8))) (count 4) ≡ negsuc 1
+  pub wraps-4·5 : netWrap (Every (count 4)) (travels (count 9 ⊘ count 2)) ≡ pos 1
+  pub wraps-4·75 : netWrap (Every (count 4)) (travels (count 19 ⊘ count 4)) ≡ pos 0
+  pub wraps-3·5 : netWrap (Every (count 4)) (travels (count 7 ⊘ count 2)) ≡ pos 1
+  pub wraps-2 : netWrap (Every (count 4)) (travels (count 2)) ≡ pos 0
+  pub wraps-minus-8 : netWrap (Every (count 4)) (travels (neg (count 8))) ≡ negsuc 1
   -- corners (0,0), (4,0), (0,3): area 6; reversed -6
   pub area : areaOf (count 0 ∷ count 4 ∷ count 0 ∷ []) (count 0 ∷ count 0 ∷ count 3 ∷ []) ≡ count 6
   pub area-reversed : areaOf (count 0 ∷ count 4 ∷ count 0 ∷ []) (count 3 ∷ count 0 ∷ count 0 ∷ []) ≡ neg (count 6)
@@ -71,7 +72,7 @@ pub record Starred : Type 0 where
   pub second-square : outerOf (boxesOf (squareU one ∷ squareU one ∷ []) (squareV one ∷ squareV one ∷ [])) (areaOf (squareU one) (squareV one) ∷ areaOf (squareU one) (squareV one) ∷ []) ≡ 1
 
 pub starred : Starred
-unfolding roundAway floorOf absOf sqrtOf sincosOf nearestBranch netWrap turnsCounted areaOf crossSum crossAt alignCuts alignAt turnedOnto nearest firstLeast begun closed add sub mul div neg lt le eq ofBits toBits ofInt toSigned
+unfolding roundAway floorOf absOf sqrtOf sincosOf nearestBranch wrapEvery turnsCounted areaOf crossSum crossAt alignCuts alignAt turnedOnto nearest firstLeast begun closed add sub mul div neg lt le eq ofBits toBits ofInt toSigned
 starred =
     record {
       round-half = refl;

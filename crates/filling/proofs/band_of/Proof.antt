@@ -1,4 +1,4 @@
-use mathlib.Core.Path.{refl, sym}
+use mathlib.Core.Path.{sym}
 use native.Mathlib.Omega.{arith}
 use lib.Seq.{length-take-le}
 use borrow.Author.Needs.{sfits-of}
@@ -34,8 +34,8 @@ returns c = λ s f room.
     (falls-held _ (one .result .travel) (sfits-of (c .before .before .before .before .before .before .before .before .before .struct-told .given .1 .1 .1 .0 .1)) (c .before .before .before .before .before .before .before .before .falls .ensures)))
     (falls-taken _ _ _ _ _ _ _ _ _ _ f _ (b-inside _ _ _ _ _ _ _ _ _ _ f) _ _ (other .ensures .0)
     (falls-held _ (other .result .travel) (sfits-of (c .before .before .before .before .before .before .before .struct-told2 .given .1 .1 .1 .0 .1)) (c .before .before .before .before .before .before .falls2 .ensures)))
-    (counts-taken _ _ _ _ _ _ _ _ _ _ f _ _ _ _ (omega arith) (c .before .before .before .before .before .before .before .before .before .before .before .before .before .before .before .before .before .count-holes .ensures (c .before .before .before .before .before .before .before .before .before .before .before .before .before .before .before .before .before .before .before .before .before .before .before .before .before .before .before .before .before .before .before .before .before .before .before .before .args .given .now) refl) (c .before .before .before .before .before .before .before .before .before .before .before .before .before .before .before .before .shorter .ensures) (c .before .before .before .before .before .before .before .before .before .before .before .before .before .before .before .before .before .before .before .pick-counts .ensures))
-    (holes-taken _ _ _ _ _ _ _ _ _ _ f _ _ room (c .before .before .before .before .before .before .before .before .before .before .before .before .before .before .before .before .before .before .before .before .before .before .before .pick-holes .ensures)) _ _ _ _ _ (c .before .before .before .before .before .before .before .before .before .before .before .before .before .before .before .u-period .ensures) (c .before .before .before .before .before .before .before .before .before .before .before .before .before .before .period-length .ensures) (c .before .before .before .before .band-between .ensures)
+    (counts-taken _ _ _ _ _ _ _ _ _ _ f _ _ _ _ (omega arith) (c .before .before .before .before .before .before .before .before .before .before .before .before .before .before .before .before .before .count-holes .ensures) (c .before .before .before .before .before .before .before .before .before .before .before .before .before .before .before .before .shorter .ensures) (c .before .before .before .before .before .before .before .before .before .before .before .before .before .before .before .before .before .before .before .pick-counts .ensures))
+    (holes-taken _ _ _ _ _ _ _ _ _ _ f _ _ room (c .before .before .before .before .before .before .before .before .before .before .before .before .before .before .before .before .before .before .before .before .before .before .before .pick-holes .ensures)) _ _ _ _ _ (c .before .before .before .before .before .before .before .before .before .before .before .before .before .before .before .u-period .ensures) (c .before .before .before .before .before .before .before .before .before .before .before .before .before .before .length .ensures) (c .before .before .before .before .band-between .ensures)
 
 pub band-of-spec : {M : Type 1} → statement M
 band-of-spec =

@@ -2,7 +2,7 @@
 use Prim.Native.Nat.{ℕ, suc, _+_, _≤_, _<_}
 use mathlib.Core.Path.{_≡_, refl, sym, ap, _∙_}
 use mathlib.Core.Bool.{Bool, true, false, cond, not}
-use mathlib.Core.List.{List, [], _∷_}
+use mathlib.Core.List.{List, _∷_}
 use native.Mathlib.Numerals.{add-one}
 use native.Mathlib.Omega.{arith}
 use borrow.Author.Tests.{not-true, not-false, leb-true, leb-false}
@@ -10,8 +10,10 @@ use lib.Dec.{leb}
 use lib.ListN.{length, getD, drop, set, length-drop}
 use lib.Seq.{drop-cons}
 use Rattle.lists.specs.Placed.{placed}
+use Rattle.lists.specs.Places.{places}
 use Rattle.lists.proofs.Filling.{Filling, filling, filling-turn, filling-end}
 use Rattle.lists.proofs.Placed.{placed-short}
+use Rattle.lists.proofs.Places.{length-places}
 use Rattle.holes.specs.Others.{isRing, othersFrom, others}
 use Rattle.holes.proofs.Others.{others-as-many}
 use Rattle.holes.proofs.Picking.{others-first, none-past}
@@ -72,40 +74,31 @@ module _ {A : Type 0} where
 module _ (n a b : ℕ) where
   pub record Counting (k i : ℕ) : Type 0 where
     pub few : k ≤ i
-    pub is : (loops : List ℕ) → length loops ≡ n → Passing loops a b k i
+    pub pass : Passing (places n) a b k i
 
   pub counting : Counting 0 0
-  counting = record { few = omega arith; is = λ loops e. passing loops a b }
+  counting = record { few = omega arith; pass = passing (places n) a b }
 
   module _ (k i : ℕ) (c : Counting k i) (h : i < n) (t : Bool) (t-is : t ≡ isRing a b i) where
     pub counting-ring : not t ≡ false → Counting k (i + 1)
-    counting-ring r = record { few = let f = c .few in omega arith; is = λ loops e. passing-ring loops a b 0 k i (c .is loops e) (omega arith) t t-is r }
+    counting-ring r = record { few = let f = c .few in omega arith; pass = passing-ring (places n) a b 0 k i (c .pass) (omega (arith, length-places n)) t t-is r }
 
     pub counting-hole : not t ≡ true → Counting (k + 1) (i + 1)
-    counting-hole r = record { few = let f = c .few in omega arith; is = λ loops e. passing-hole loops a b 0 k i (c .is loops e) (omega arith) t t-is r }
+    counting-hole r = record { few = let f = c .few in omega arith; pass = passing-hole (places n) a b 0 k i (c .pass) (omega (arith, length-places n)) t t-is r }
 
-  pub counting-end : (k i : ℕ) → Counting k i → n ≤ i → (loops : List ℕ) → length loops ≡ n → k ≡ length (others a b loops)
-  counting-end k i c h loops e = passing-end loops a b k i (c .is loops e) (omega arith)
+  pub counting-end : (k i : ℕ) → Counting k i → n ≤ i → k ≡ length (others a b (places n))
+  counting-end k i c h = passing-end (places n) a b k i (c .pass) (omega (arith, length-places n))
 
 -- ---- picked
-
-someLoops : {A : Type 0} → List A → List ℕ
-someLoops [] = []
-someLoops (x ∷ xs) = 0 ∷ someLoops xs
-
-as-many : {A : Type 0} (xs : List A) → length (someLoops xs) ≡ length xs
-unfolding someLoops
-as-many [] = refl
-as-many (x ∷ xs) = ap suc (as-many xs)
 
 module _ {A : Type 0} (at : ℕ) (src : List A) (a b : ℕ) (d₀ : List A) where
   pub record Picking (d : List A) (k i : ℕ) : Type 0 where
     pub fill : Filling at (others a b src) d₀ d k
     pub pass : Passing src a b k i
 
-  module _ (m : ℕ) (fits : Bool) (m-is : (loops : List ℕ) → length loops ≡ length src → m ≡ length (others a b loops)) (fits-is : fits ≡ leb (at + m) (length d₀)) where
+  module _ (m : ℕ) (fits : Bool) (m-is : m ≡ length (others a b (places (length src)))) (fits-is : fits ≡ leb (at + m) (length d₀)) where
     holes-are : m ≡ length (others a b src)
-    holes-are = m-is (someLoops src) (as-many src) ∙ others-as-many a b 0 (someLoops src) src (as-many src)
+    holes-are = m-is ∙ others-as-many a b 0 (places (length src)) src (length-places (length src))
 
     pub picking-none : not fits ≡ true → d₀ ≡ placed at (others a b src) d₀
     picking-none n =

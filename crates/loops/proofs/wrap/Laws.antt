@@ -12,21 +12,21 @@ use Rattle.numbers.specs.Order.{absOf}
 use Rattle.numbers.specs.Round.{roundAway}
 use Rattle.numbers.specs.Rounded.{_⊖_, _⊘_}
 use Rattle.loops.specs.Steps.{lastOf}
-use Rattle.loops.specs.Wrap.{tolerance, turnsCounted, netWrap}
+use Rattle.loops.specs.Wrap.{tolerance, turnsCounted, wrapEvery}
 
 -- ---- the travel by indices
 last-at : (x : Float) (xs : List Float) → lastOf x xs ≡ getD (x ∷ xs) (length xs) nan
 last-at x [] = refl
 last-at x (y ∷ xs) = last-at y xs
 
-pub net-of-few : (us : List Float) (period : Float) → length us < 2 → pos 0 ≡ netWrap us period
-unfolding netWrap
+pub net-of-few : (us : List Float) (period : Float) → length us < 2 → pos 0 ≡ wrapEvery period us
+unfolding wrapEvery
 net-of-few [] period h = refl
 net-of-few (u ∷ []) period h = refl
 net-of-few (u ∷ w ∷ us) period h = absurd (omega arith)
 
-pub net-of-more : (us : List Float) (period : Float) → 2 ≤ length us → turnsCounted ((getD us (length us - 1) nan ⊖ getD us 0 nan) ⊘ period) ≡ netWrap us period
-unfolding netWrap
+pub net-of-more : (us : List Float) (period : Float) → 2 ≤ length us → turnsCounted ((getD us (length us - 1) nan ⊖ getD us 0 nan) ⊘ period) ≡ wrapEvery period us
+unfolding wrapEvery
 net-of-more [] period h = absurd (omega arith)
 net-of-more (u ∷ []) period h = absurd (omega arith)
 net-of-more (u ∷ w ∷ us) period h = let e : length (u ∷ w ∷ us) - 1 ≡ suc (length us) = omega arith in rw (e, last-at w us)

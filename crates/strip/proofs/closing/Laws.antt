@@ -90,12 +90,6 @@ module _ (S : Setting Vec3) (lower upper : Corners Vec3) (room : ℕ) where
           let z : _≡_ {A = ℕ} 0 1 = cc in
           absurd (omega arith)
 
-  pub band-there : (old now : Corners Vec3) (k : ℕ) (area : Float) → Closed k area ≡ closingOf S lower upper room → now ≡ closedInto S lower upper room old
-      → room ≤ length old → take k now ≡ bandBetween S lower upper
-  band-there old now k area e is within =
-      let f = closed-fits k area e in
-      ap (λ (j : ℕ). take j now) (f .1) ∙ band-closed old now is (f .0) within
-
   pub too-many : (n : ℕ) (old : Corners Vec3) → n ≡ capped (length (strip S lower upper)) → room < n
       → (TooMany n ≡ closingOf S lower upper room) × (old ≡ closedInto S lower upper room old)
   unfolding closingOf closedInto

@@ -1,13 +1,13 @@
 -- The inner rungs: how many, and where they are written.
 use Prim.Native.Nat.{ℕ, _+_, _-_, _≤_}
 use mathlib.Core.Path.{_≡_, sym, ap, _∙_}
-use mathlib.Core.List.{List, _++_, dropLast}
+use mathlib.Core.List.{List, _++_}
 use native.Mathlib.Omega.{arith}
 use lib.ListN.{length, take, drop, length-drop}
 use lib.Seq.{sets}
 use lib.Ieee.{Float}
 use Rattle.lists.proofs.Elements.{dropLast-take, length-dropLast}
-use Rattle.lists.proofs.Stores.{sets-part, sets-room, sets-whole, sets-over}
+use Rattle.lists.proofs.Stores.{sets-part, sets-room}
 use Rattle.surfaces.specs.Rungs.{inner}
 
 pub inner-length : (xs : List Float) → length (inner xs) ≡ length xs - 1 - 1
@@ -33,14 +33,3 @@ module _ (xs os : List Float) {m : ℕ} (count : m ≡ length (inner xs)) where
   inner-whole h e =
       let l : length os ≤ 0 + length (inner xs) = omega arith in
       e ∙ sym (sets-room os 0 (length (inner xs)) (drop 1 xs) l) ∙ rw (inner-take xs)
-
--- ---- into a part that is just as long as what is meant
-pub just-inner : (xs os : List Float) → length os ≡ length (inner xs) → sets os 0 (inner xs) ≡ inner xs
-just-inner xs os e = sets-whole os (inner xs) e
-
-module _ (xs os : List Float) (count : length os ≡ length xs - 1) where
-  pub all-but-first : sets os 0 (drop 1 xs) ≡ drop 1 xs
-  all-but-first = sets-whole os (drop 1 xs) (count ∙ sym (length-drop 1 xs))
-
-  pub all-but-last : sets os 0 (drop 0 xs) ≡ dropLast xs
-  all-but-last = let h : length os ≤ length xs = omega arith in sets-over os xs h ∙ rw count (sym (dropLast-take xs))

@@ -1,7 +1,6 @@
 -- What is kept of a list, by each element: dropped where it is near the one kept before, else kept.
 use Prim.Native.Nat.{ℕ, zero, suc, _≤_, _<_, suc-le-suc}
 use mathlib.Core.Path.{_≡_, refl}
-use mathlib.Core.Logic.{_⊎_, inl, inr}
 use mathlib.Core.Bool.{Bool, true, false, cond}
 use mathlib.Core.List.{List, [], _∷_}
 use native.Mathlib.Nat.{not-suc-le-zero, le-of-suc-le-suc, zero-lt-suc}
@@ -32,10 +31,6 @@ kept-after e last (x ∷ xs) = rw (kept-step e last x xs) (go (near e x last) re
     go true h p q = dropped h p
     go false h p q = taken h q
 
--- x was kept as d, or is near d, the one kept before it
-abbrev pub Covers : Float → Float → Float → Type 0
-Covers e x d = (d ≡ x) ⊎ (near e x d ≡ true)
-
 module _ {e : Float} where
   pub kept-few : {last : Float} {xs ks : List Float} → Kept e last xs ks → length ks ≤ length xs
   kept-few done = omega arith
@@ -48,23 +43,3 @@ module _ {e : Float} where
   kept-each P (dropped n k) p j h = kept-each P k (λ i l. p (suc i) (suc-le-suc l)) j h
   kept-each P (taken n k) p zero h = p 0 (zero-lt-suc _)
   kept-each P (taken n k) p (suc j) h = kept-each P k (λ i l. p (suc i) (suc-le-suc l)) j (le-of-suc-le-suc h)
-
-  -- no two neighbours are near
-  pub kept-apart : {last : Float} {xs ks : List Float} → Kept e last xs ks → (j : ℕ) → j < length ks → near e (getD ks j nan) (getD (last ∷ ks) j nan) ≡ false
-  kept-apart done j h = absurd (not-suc-le-zero h)
-  kept-apart (dropped n k) j h = kept-apart k j h
-  kept-apart (taken n k) zero h = n
-  kept-apart (taken n k) (suc j) h = kept-apart k j (le-of-suc-le-suc h)
-
-  pub kept-cover : {last : Float} {xs ks : List Float} → Kept e last xs ks → (i : ℕ) → i < length xs → (j : ℕ) × (j ≤ length ks) × Covers e (getD xs i nan) (getD (last ∷ ks) j nan)
-  kept-cover done i h = absurd (not-suc-le-zero h)
-  kept-cover (dropped n k) zero h = (0, omega arith, inr n)
-  kept-cover (dropped n k) (suc i) h = kept-cover k i (le-of-suc-le-suc h)
-  kept-cover (taken n k) zero h = (1, omega arith, inl refl)
-  kept-cover (taken n k) (suc i) h = let c = kept-cover k i (le-of-suc-le-suc h) in let l = c .1 in (suc (c .0), omega arith, c .2)
-
-  pub kept-last : {last x : Float} {xs ks : List Float} → Kept e last (x ∷ xs) ks → Covers e (getD (x ∷ xs) (length xs) nan) (getD (last ∷ ks) (length ks) nan)
-  kept-last {xs = []} (dropped n done) = inr n
-  kept-last {xs = y ∷ ys} (dropped n k) = kept-last k
-  kept-last {xs = []} (taken n done) = inl refl
-  kept-last {xs = y ∷ ys} (taken n k) = kept-last k

@@ -2,25 +2,25 @@
 use Prim.Native.Nat.{ℕ, zero, suc, _+_, _-_, _^_, _≤_, _<_, max}
 use mathlib.Core.Path.{_≡_, refl, sym, ap, _∙_, subst}
 use mathlib.Core.Logic.{_⊎_, inl, inr}
-use mathlib.Core.Bool.{Bool, true, false, not, cond}
+use mathlib.Core.Bool.{Bool, true, false, not}
 use mathlib.Core.List.{List, [], _∷_, _++_, dropLast}
 use native.Mathlib.Nat.{not-suc-le-zero, le-of-suc-le-suc}
 use native.Mathlib.Omega.{arith}
 use lib.Dec.{T}
 use lib.ListN.{length, getD, drop, length-append, length-drop}
 use lib.Seq.{sets, getD-drop}
-use lib.Ieee.{Float, nan, fin, binary64, mul, le, eq, ne, fits, ofBits}
+use lib.Ieee.{Float, nan, fin, binary64, mul, le, ne, ofBits}
 use lib.Ieee.Scale.{finite}
 use Rattle.lists.proofs.Stores.{sets-at}
 use Rattle.numbers.specs.Constants.{plusZero, 10^-9}
 use Rattle.numbers.specs.Order.{absOf}
 use Rattle.numbers.specs.Rounded.{_⊕_, _⊖_, _⊗_, count}
 use Rattle.numbers.proofs.Monotone.{ofInt-positive}
-use Rattle.numbers.proofs.Zeros.{nil, plus-zero-is, none-of, plus-none, plus-zero, no-width, minus-self, minus-negative-zero, as-one-eq}
-use Rattle.surfaces.specs.Rungs.{division, divisionsFrom, slackOf, near, keptAfter, keptDivisions, endedOn, rungs, EndsOn, EndWritten, inner}
+use Rattle.numbers.proofs.Zeros.{nil, none-of, plus-none, minus-negative-zero, as-one-eq}
+use Rattle.surfaces.specs.Rungs.{division, divisionsFrom, slackOf, keptAfter, keptDivisions, endedOn, rungs, EndsOn, EndWritten, inner}
 use Rattle.surfaces.proofs.knots.Ended.{ended-is, inner-ended, length-ended, last-added, each-front, each-ended}
 use Rattle.surfaces.proofs.knots.Inner.{inner-length}
-use Rattle.surfaces.proofs.knots.Kept.{Kept, Covers, kept-step, kept-after, kept-few, kept-each, kept-apart, kept-cover, kept-last}
+use Rattle.surfaces.proofs.knots.Kept.{Kept, kept-after, kept-few, kept-each}
 use Rattle.surfaces.proofs.knots.Rising.{Stretch}
 
 module _ (lo hi : Float) (n : ℕ) where
@@ -160,40 +160,7 @@ module _ (lo hi : Float) (n : ℕ) where
       set : (j : ℕ) → j < length (division lo hi n 0 ∷ (dropLast after ++ (hi ∷ []))) → Rung (getD (division lo hi n 0 ∷ (dropLast after ++ (hi ∷ []))) j nan)
       set zero h = first
       set (suc j) h = each-ended Rung hi (inr refl) after (λ i l. inl (after-each i l)) j (le-of-suc-le-suc h)
-
-  -- ---- of the divisions kept no two neighbours are near, and each division is kept or near the one kept before it
-  pub divisions-apart : (j : ℕ) → suc j < length (keptDivisions lo hi n)
-      → near (slackOf lo hi) (getD (keptDivisions lo hi n) (suc j) nan) (getD (keptDivisions lo hi n) j nan) ≡ false
-  divisions-apart = rw kept-are (λ j h. kept-apart kept j (le-of-suc-le-suc h))
-
-  pub divisions-cover : (i : ℕ) → i ≤ n
-      → (j : ℕ) × (j < length (keptDivisions lo hi n)) × Covers (slackOf lo hi) (division lo hi n i) (getD (keptDivisions lo hi n) j nan)
-  divisions-cover zero h = rw kept-are (0, omega arith, inl refl)
-  divisions-cover (suc i) h =
-      let l : i < length (divisionsFrom lo hi n 1 n) = omega (arith, from-length 1 n) in
-      let c = kept-cover kept i l in
-      let q : getD (divisionsFrom lo hi n 1 n) i nan ≡ division lo hi n (suc i) = (let e : 1 + i ≡ suc i = omega arith in from-at 1 n i h ∙ ap (division lo hi n) e) in
-      let f = c .1 in
-      rw kept-are (c .0, omega arith, subst (λ (x : Float). Covers (slackOf lo hi) x (getD (division lo hi n 0 ∷ after) (c .0) nan)) q (c .2))
-
-top-division : (lo hi : Float) (m : ℕ) → getD (divisionsFrom lo hi (suc m) 1 (suc m)) (length (divisionsFrom lo hi (suc m) 2 m)) nan ≡ division lo hi (suc m) (suc m)
-top-division lo hi m =
-    let n = suc m in
-    let e : 1 + m ≡ n = omega arith in
-    let h : m < n = omega arith in
-    ap (λ (j : ℕ). getD (divisionsFrom lo hi n 1 n) j nan) (from-length lo hi n 2 m) ∙ from-at lo hi n 1 n m h ∙ ap (division lo hi n) e
-
--- the last division is the last that is kept, or is near it
-pub divisions-last : (lo hi : Float) (n : ℕ)
-    → Covers (slackOf lo hi) (division lo hi n n) (getD (keptDivisions lo hi n) (length (keptDivisions lo hi n) - 1) nan)
-unfolding after divisionsFrom keptAfter
-divisions-last lo hi zero = rw (kept-are lo hi 0) (inl refl)
-divisions-last lo hi (suc m) =
-    let n = suc m in
-    let first = division lo hi n 0 in
-    let all = after lo hi n in
-    let length-is : length (first ∷ all) - 1 ≡ length all = omega arith in
-    rw (kept-are lo hi n, length-is) (subst (λ (x : Float). Covers (slackOf lo hi) x (getD (first ∷ all) (length all) nan)) (top-division lo hi m) (kept-last (kept lo hi n)))
+      -- ---- of the divisions kept no two neighbours are near, and each division is kept or near the one kept before it
 
 -- ---- the first is lo + 0.0: lo as a number, and 0.0 for -0.0
 first-division : (lo hi : Float) (n : ℕ) → Stretch lo hi → n ≤ 2 ^ 53 → division lo hi n 0 ≡ lo ⊕ plusZero
@@ -203,24 +170,12 @@ first-division lo hi n s few =
     ap (λ (q : Float). lo ⊕ q) (z .is)
     ∙ plus-none lo (z .sign) (s .lower) (λ e p. minus-negative-zero hi e (z .sign) (z .size) (z .expo) (subst (λ (x : Float). T (le x hi)) p (s .order)) (subst (λ (x : Float). hi ⊖ x ≡ fin (z .sign) (z .size) (z .expo)) p (z .width)))
 
-pub rungs-first : (lo hi : Float) (n : ℕ) → Stretch lo hi → n ≤ 2 ^ 53 → getD (rungs lo hi n) 0 nan ≡ lo ⊕ plusZero
-rungs-first lo hi n s few =
-    rungs-either lo hi n (λ (l : List Float). getD l 0 nan ≡ lo ⊕ plusZero) (first-division lo hi n s few)
-    (ap (λ (l : List Float). getD l 0 nan) (ended-is hi (division lo hi n 0) (after lo hi n)) ∙ first-division lo hi n s few)
-
 -- ---- between two ends that differ: the lower end as a number, the inner rungs and the upper end itself
 pub rungs-between : (lo hi : Float) (n : ℕ) → Stretch lo hi → n ≤ 2 ^ 53 → ne lo hi ≡ true
     → rungs lo hi n ≡ (lo ⊕ plusZero) ∷ (inner (rungs lo hi n) ++ (hi ∷ []))
 rungs-between lo hi n s few h = rungs-ended lo hi n h ∙ ap (λ (x : Float). x ∷ (inner (rungs lo hi n) ++ (hi ∷ []))) (first-division lo hi n s few)
 
-pub rungs-start : (lo hi : Float) (n : ℕ) → Stretch lo hi → n ≤ 2 ^ 53 → T (fits binary64 lo) → eq (getD (rungs lo hi n) 0 nan) lo ≡ true
-rungs-start lo hi n s few f = rw (rungs-first lo hi n s few) (plus-zero lo f (s .lower) .0)
-
 -- ---- no steps: the first alone, or the two ends; and no width: the first alone
-pub rungs-of-none : (lo hi : Float) → rungs lo hi 0 ≡ cond (ne lo hi) (division lo hi 0 0 ∷ hi ∷ []) (division lo hi 0 0 ∷ [])
-unfolding rungs endedOn keptDivisions divisionsFrom keptAfter
-rungs-of-none lo hi = refl
-
 least : le (absOf (nil false)) (absOf (nil false) ⊗ 10^-9) ≡ true
 unfolding le absOf mul ofBits
 least = refl
@@ -228,33 +183,6 @@ least = refl
 itself : (x : Float) → T (finite x) → ne x x ≡ false
 unfolding ne
 itself x h = ap not (as-one-eq x x h (inl refl))
-
-module _ (lo : Float) (n : ℕ) (held : T (fits binary64 lo)) (lower : T (finite lo)) (few : n ≤ 2 ^ 53) where
-  equal-division : (i : ℕ) → i ≤ 2 ^ 53 → division lo lo n i ≡ lo ⊕ plusZero
-  unfolding division
-  equal-division i h = ap (λ (q : Float). lo ⊕ q) (no-width (lo ⊖ lo) (count (max n 1)) i (minus-self lo lower) (ofInt-positive binary64 (max n 1) (omega arith) (omega arith)) h ∙ sym plus-zero-is)
-
-  near-itself : (x : Float) → T (finite x) → near (slackOf lo lo) x x ≡ true
-  unfolding near slackOf
-  near-itself x h = ap (λ (z : Float). le (absOf z) (absOf (lo ⊖ lo) ⊗ 10^-9)) (minus-self x h) ∙ ap (λ (z : Float). le (absOf (nil false)) (absOf z ⊗ 10^-9)) (minus-self lo lower) ∙ least
-
-  none-after : (i k : ℕ) → i + k ≤ suc (2 ^ 53) → keptAfter (slackOf lo lo) (lo ⊕ plusZero) (divisionsFrom lo lo n i k) ≡ []
-  unfolding keptAfter divisionsFrom
-  none-after i zero h = refl
-  none-after i (suc k) h =
-      let e = slackOf lo lo in
-      let x = lo ⊕ plusZero in
-      let d = division lo lo n i in
-      let rest = divisionsFrom lo lo n (suc i) k in
-      let same : near e d x ≡ true = ap (λ (z : Float). near e z x) (equal-division i (omega arith)) ∙ near-itself x (plus-zero lo held lower .1) in
-      kept-step e x d rest ∙ ap (λ (b : Bool). cond b (keptAfter e x rest) (d ∷ keptAfter e d rest)) same ∙ none-after (suc i) k (omega arith)
-
-  pub rungs-of-equal : rungs lo lo n ≡ (lo ⊕ plusZero) ∷ []
-  unfolding after
-  rungs-of-equal =
-      rungs-kept lo lo n (itself lo lower) ∙ kept-are lo lo n
-      ∙ ap (λ (d : Float). d ∷ keptAfter (slackOf lo lo) d (divisionsFrom lo lo n 1 n)) (equal-division 0 (omega arith))
-      ∙ ap (λ (l : List Float). (lo ⊕ plusZero) ∷ l) (none-after 1 n (omega arith))
 
 -- ---- first, inner and last of two or more
 init-last : (x : Float) (xs : List Float) → x ∷ xs ≡ dropLast (x ∷ xs) ++ (getD (x ∷ xs) (length xs) nan ∷ [])

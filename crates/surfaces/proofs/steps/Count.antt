@@ -1,5 +1,5 @@
 -- How many steps a wall can have.
-use Prim.Native.Nat.{ℕ, _*_, _≤_, _<_, max}
+use Prim.Native.Nat.{ℕ, _*_, _≤_, max}
 use native.Mathlib.Omega.{arith}
 use lib.Ieee.{Float}
 use Rattle.numbers.specs.Rounded.{_⊖_}
@@ -8,7 +8,7 @@ use Rattle.surfaces.specs.declared.options.Resolved.{Resolved}
 use Rattle.surfaces.specs.declared.surface.Surface.{Surface}
 use Rattle.surfaces.specs.declared.surface.Surface.the-variants.{Plane, Cylinder, Cone, Sphere, Torus}
 use Rattle.surfaces.specs.Steps.{vStepsOf}
-use Rattle.surfaces.proofs.options.Count.{segments-few, segments-some}
+use Rattle.surfaces.proofs.options.Count.{segments-few}
 
 module _ (B : ℕ) (from to : Float) (o : Resolved) where
   straight : max (o .«min_edge_segments») 1 ≤ max (max (B * 1000) (o .«min_edge_segments»)) 1
@@ -22,11 +22,3 @@ module _ (B : ℕ) (from to : Float) (o : Resolved) where
   v-steps-few (Cone R a) h w = straight
   v-steps-few (Sphere R) h w = segments-few B o R (to ⊖ from) h w
   v-steps-few (Torus R r) h w = segments-few B o r (to ⊖ from) h w
-
-pub v-steps-some : (s : Surface) (from to : Float) (o : Resolved) → 0 < vStepsOf s from to o
-unfolding vStepsOf
-v-steps-some Plane from to o = omega arith
-v-steps-some (Cylinder R) from to o = omega arith
-v-steps-some (Cone R a) from to o = omega arith
-v-steps-some (Sphere R) from to o = segments-some o R (to ⊖ from)
-v-steps-some (Torus R r) from to o = segments-some o r (to ⊖ from)

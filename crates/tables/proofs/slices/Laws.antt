@@ -2,14 +2,13 @@
 use Prim.Native.Nat.{ℕ, _+_, _-_, _≤_, _<_}
 use mathlib.Core.Path.{_≡_, refl, sym, _∙_}
 use mathlib.Core.Bool.{Bool, true, false, not}
-use mathlib.Core.List.{List, reverse}
+use mathlib.Core.List.{List}
 use native.Mathlib.Omega.{arith}
 use borrow.Author.Tests.{le-leb, lt-leb, leb-true, leb-false, not-true, not-false}
 use lib.Dec.{leb}
 use lib.Ieee.{Float, nan, div, ofBits, binary64}
-use lib.ListN.{length, getD, set, replicate, length-reverse, getD-replicate}
+use lib.ListN.{length, getD, set}
 use Rattle.lists.specs.Placed.{placed}
-use Rattle.lists.proofs.Elements.{getD-reverse}
 use Rattle.lists.proofs.Filling.{Filling, filling, filling-turn, filling-end}
 use Rattle.lists.proofs.Placed.{placed-short}
 
@@ -54,12 +53,3 @@ module _ (from : ℕ) (w d₀ : List Float) (n : ℕ) where
   writing-end d i p h = filling-end from w d₀ d i (p .fill) (let c = p .count in omega arith)
 
 -- what each pass writes at i
-
-pub length-reversed : (src : List Float) → length (reverse src) ≡ length src
-length-reversed src = length-reverse src
-
-pub reversed : (src : List Float) (i : ℕ) → i < length src → getD src (length src - 1 - i) nan ≡ getD (reverse src) i nan
-reversed src i h = sym (getD-reverse src i (length src - 1 - i) nan (omega arith))
-
-pub repeated : (n i : ℕ) (x : Float) → i < n → x ≡ getD (replicate n x) i nan
-repeated n i x h = sym (getD-replicate n i x nan h)

@@ -1,7 +1,8 @@
 use mathlib.Core.Path.{refl, sym, _∙_}
 use native.Mathlib.Omega.{arith}
 use lib.Seq.{length-take-le}
-use Rattle.filling.specs.Stages.{ringConditions, stripConditions}
+use Rattle.records.specs.Limits.{version1}
+use Rattle.call.specs.Later.{ringConditions, stripConditions}
 use Rattle.filling.proofs.Reading.{counts-told, counts-many, reals-told, read-as}
 use Rattle.filling.proofs.Refused.{rings-judged}
 use Rattle.filling.proofs.Stages.{held, surface-in, records-in, wraps-in, areas-in, refused-as, passed-as, filled-as}
@@ -58,7 +59,7 @@ returns c = λ a.
     let many = counts-many _ _ _ _ (c .before .before .before .before .before .before .before .before .before .before .before .before .before .before .before .before .before .before .before .before .before .before .before .before .before .before .before .before .before .before .read-counts .ensures) (c .before .before .before .before .before .before .before .before .before .before .before .before .before .before .before .before .before .before .before .before .before .before .before .before .before .before .before .before .before .given2 .given) _ (c .before .before .before .before .before .before .before .before .before .before .before .before .before .before .before .before .before .before .before .before .before .before .before .before .before .before .before .before .read-many .ensures) in
     let surface-is = surface-in _ a _ _ _ read _ (c .before .before .before .before .before .before .before .before .before .before .before .before .before .before .before .before .before .before .before .before .before .before .before .kind .ensures) _ _ (c .before .before .before .before .before .before .before .before .before .before .before .before .before .before .before .before .before .before .before .before .before .at .ensures) (c .before .before .before .before .before .before .before .before .before .before .before .before .before .before .before .before .before .before .before .at2 .ensures) _ (c .before .before .before .before .before .before .before .before .before .before .before .before .before .before .before .before .before .before .surface-of .ensures) in
     let wraps-are = wraps-in _ a _ _ _ read _ surface-is _ (c .before .before .before .before .before .before .before .before .before .before .before .before .before .before .before .u-period .ensures) _ (c .before .before .before .before .before .before .before .before .before .before .before .before .before .before .measure-loops .ensures) _ many _ _ (omega arith) (c .before .before .before .before .before .before .before .before .before .before .before .before .wraps-of .ensures) in
-    refused-as _ ringConditions stripConditions _ (c .before .before .before .check-rings .ensures ∙ rings-judged _ _ (held _ a _ _ _ read) _ wraps-are _ (c .before .before .before .before .before .before .before .kind2 .ensures)) _ _ (c .before .found .given .1) _ _ _
+    refused-as _ ringConditions (stripConditions version1) _ (c .before .before .before .check-rings .ensures ∙ rings-judged _ _ (held _ a _ _ _ read) _ wraps-are _ (c .before .before .before .before .before .before .before .kind2 .ensures)) _ _ (c .before .found .given .1) _ _ _
 
 slice-aggregate-fill-path : tie.Need-slice-aggregate-fill-path
 slice-aggregate-fill-path c =
@@ -106,8 +107,8 @@ returns-2 c = λ a.
     let areas-are = areas-in _ a _ _ _ read _ surface-is _ (c .before .before .before .before .before .before .before .before .before .before .before .before .before .before .before .before .before .before .before .before .before .before .before .before .before .before .u-period .ensures) _ (c .before .before .before .before .before .before .before .before .before .before .before .before .before .before .before .before .before .before .before .before .before .before .before .before .before .measure-loops .ensures) _ many _ _ (omega arith) (c .before .before .before .before .before .before .before .before .before .before .before .before .before .before .before .before .before .before .before .before .areas-of .ensures) in
     let found = c .before .before .before .before .before .before .before .before .before .before .before .before .before .before .check-rings .ensures ∙ rings-judged _ _ (held _ a _ _ _ read) _ wraps-are _ (c .before .before .before .before .before .before .before .before .before .before .before .before .before .before .before .before .before .before .kind2 .ensures) in
     let passed = c .before .before .before .before .before .before .before .before .before .before .before .before .enum-told .given .1 in
-    filled-as _ ringConditions stripConditions _ found passed _ _ _ _
-    (c .before .before .fill-path .ensures a read (records-in _ a _ _ _ read _ surface-is _ (c .before .before .before .before .before .before .before .before .before .before .before .before .before .before .before .before .before .before .before .before .before .before .before .before .before .before .u-period .ensures) _ (c .before .before .before .before .before .before .before .before .before .before .before .before .before .before .before .before .before .before .before .before .before .before .before .before .before .measure-loops .ensures)) wraps-are areas-are surface-is (passed-as _ ringConditions stripConditions _ found passed))
+    filled-as _ ringConditions (stripConditions version1) _ found passed _ _ _ _
+    (c .before .before .fill-path .ensures a read (records-in _ a _ _ _ read _ surface-is _ (c .before .before .before .before .before .before .before .before .before .before .before .before .before .before .before .before .before .before .before .before .before .before .before .before .before .before .u-period .ensures) _ (c .before .before .before .before .before .before .before .before .before .before .before .before .before .before .before .before .before .before .before .before .before .before .before .before .before .measure-loops .ensures)) wraps-are areas-are surface-is (passed-as _ ringConditions (stripConditions version1) _ found passed))
 
 pub fill-record-spec : {M : Type 1} → statement M
 fill-record-spec =

@@ -25,7 +25,7 @@ put-sides-requires c κs =
     let laid-u = laid-v .before .before .before in
     let start = laid-u .before .before .before in
     sides-ready (start .args .surface) (start .args .options) _ _ (start .pre .0) (start .pre .1) _ _ _ _ _ _ refl refl
-    (laid-u .lay-rungs .ensures .0) (laid-v .lay-rungs2 .ensures .0) (first .part .ensures) (read .part2 .ensures)
+    (laid-u .write-rungs .ensures .0) (laid-v .write-rungs2 .ensures .0) (first .part .ensures) (read .part2 .ensures)
 
 returns : tie.Need-returns
 returns c =
@@ -35,7 +35,7 @@ returns c =
     let laid-u = laid-v .before .before .before in
     let start = laid-u .before .before .before in
     boundary-put (start .args .surface) (start .args .options) _ _ (start .pre .0) (start .pre .1) _ _ _ _ _ _ refl refl
-    (laid-u .lay-rungs .ensures .0) (laid-v .lay-rungs2 .ensures .0) (first .part .ensures) (read .part2 .ensures) _ _ _ (c .before .before .put-sides .ensures)
+    (laid-u .write-rungs .ensures .0) (laid-v .write-rungs2 .ensures .0) (first .part .ensures) (read .part2 .ensures) _ _ _ (c .before .before .put-sides .ensures)
 
 pub put-boundary-spec : {M : Type 1} → statement M
 put-boundary-spec =

@@ -1,5 +1,6 @@
 -- `loop_records::measure::with_loop` meets its contract: a walk of its MIR, by hand. All that it knows of `measure_loop` is that it meets its contract.
--- The array lies in a local: its elements are lent as a slice for a lifetime of the call, come back at the list that `measure_loop` says, and are the array again.
+-- The array lies in a local: its elements are lent as a slice for a lifetime of the call, come back at the list that `measure_loop` says, and are the array
+-- again.
 -- The table is passed on, a copy of what it owns and its token, which comes back.
 -- Assumes nothing.
 use mathlib.Core.Path.{_≡_, refl, sym, _∙_, ap, subst}
@@ -122,7 +123,8 @@ module _ {M : Type 1} (𝓤 : URA M) (H : Heap 𝓤) (A : Atoms 𝓤) (W : Given
   abbrev Table : Fml
   Table = ShrSlice (named 0) κ f64 .own t (vt ∷ [])
 
-  module _ (are : Is All xs (arr xs ∷ [])) (i-fits : i < 2 ^ 64) (start-fits : start < 2 ^ 64) (is-t : Is (ShrSlice (named 0) κ f64) t (vt ∷ [])) (is-p : Is Pd p (vp ∷ [])) (within : i < 16) where
+  module _ (are : Is All xs (arr xs ∷ [])) (i-fits : i < 2 ^ 64) (start-fits : start < 2 ^ 64) (is-t : Is (ShrSlice (named 0) κ f64) t (vt ∷ []))
+      (is-p : Is Pd p (vp ∷ [])) (within : i < 16) where
     -- there are 16 records
     long : length xs ≡ 16
     long = are .1 .0 .1
@@ -145,26 +147,42 @@ module _ {M : Type 1} (𝓤 : URA M) (H : Heap 𝓤) (A : Atoms 𝓤) (W : Given
 
     -- what its triple binds outside, and that the caller has what it asks
     abbrev to : ℕ → ℕ → GName → Callee 𝓤 H A at-mem run .Ghost
-    to ν b γ =
-        (((ν ∷ [], (κ, tt)), (fullShare, (q, tt)), tt, passed b γ, (sliceVal (b, 0) 16 ∷ [], (vint w64 i ∷ [], (vt ∷ [], (vint w64 start ∷ [], (vp ∷ [], tt)))))), tt)
+    to ν b γ = (
+      (
+        (ν ∷ [], (κ, tt)),
+        (fullShare, (q, tt)),
+        tt,
+        passed b γ,
+        (
+          sliceVal (b, 0) 16 ∷ [],
+          (vint w64 i ∷ [], (vt ∷ [], (vint w64 start ∷ [], (vp ∷ [], tt)))),
+        ),
+      ),
+      tt,
+    )
 
     goes : (ν b : ℕ) (γ : GName)
-        → ent 𝓤 (sep 𝓤 (A .lft (ν ∷ []) fullShare) (sep 𝓤 (sem 𝓤 H A (MutSlice (named 0) (ν ∷ []) R .own (s b γ) (sliceVal (b, 0) 16 ∷ []))) (sep 𝓤 (A .lft κ q) (sem 𝓤 H A Table))))
+        → ent 𝓤 (sep 𝓤 (A .lft (ν ∷ []) fullShare) (sep 𝓤 (sem 𝓤 H A (MutSlice (named 0) (ν ∷ []) R .own (s b γ) (sliceVal (b, 0) 16 ∷ [])))
+        (sep 𝓤 (A .lft κ q) (sem 𝓤 H A Table))))
         (Callee 𝓤 H A at-mem run .pre (to ν b γ))
     goes ν b γ =
         qed W (‵ (flft (ν ∷ []) fullShare) ∷ ‵ (MutSlice (named 0) (ν ∷ []) R .own (s b γ) (sliceVal (b, 0) 16 ∷ [])) ∷ (‵ (flft κ q) ⊛ ‵ Table) ∷ []) ∵
         says ! (subst (λ (m : ℕ). i < m) (sym long) within) $
         move ! (2 ∷ []) $ split ! $ nothing ! $ move ! (1 ∷ 0 ∷ []) $ join ! $ move ! (2 ∷ 0 ∷ []) $ join ! $ frame ! $
         -- [the table; the slice]
-        nothing ! $ owned ! Pd (Is Pd) (EL.makes P.the-type P′.the-plain 𝓤 H A) p _ is-p $ fjoin ! $ owned ! usize (Is usize) (uint-makes 𝓤 H A W w64) start _ (refl, start-fits) $ fjoin ! $
+        nothing ! $ owned ! Pd (Is Pd) (EL.makes P.the-type P′.the-plain 𝓤 H A) p _ is-p $ fjoin ! $
+        owned ! usize (Is usize) (uint-makes 𝓤 H A W w64) start _ (refl, start-fits) $ fjoin ! $
         move ! (1 ∷ 0 ∷ []) $ fjoin ! $ owned ! usize (Is usize) (uint-makes 𝓤 H A W w64) i _ (refl, i-fits) $ fjoin ! $ move ! (1 ∷ 0 ∷ []) $ fjoin ! $ done !
 
-    exits : (zs : List LoopRecord) (w : Val) → zs ≡ set xs i found → ent 𝓤 (⋆ 𝓤 H A (‵ (All .own zs (w ∷ [])) ∷ (‵ (flft κ q) ⊛ ‵ ftrue) ∷ ‵ Table ∷ [])) (Post w)
+    exits : (zs : List LoopRecord) (w : Val) → zs ≡ set xs i found → ent 𝓤 (⋆ 𝓤 H A (‵ (All .own zs (w ∷ [])) ∷ (‵ (flft κ q) ⊛ ‵ ftrue) ∷ ‵ Table ∷ []))
+        (Post w)
     exits zs w e =
         qed W (‵ (All .own zs (w ∷ [])) ∷ (‵ (flft κ q) ⊛ ‵ ftrue) ∷ ‵ Table ∷ []) ∵
-        suffices ! _ (ends-at 𝓤 H A fun.ended stayed (fun.clauses 𝓤 H A at-mem run) W (((κ, tt), (q, tt), tt, args, at), tt) w zs (tt, (tt, (tt, (tt, (tt, tt))))) (tt, (tt, (tt, (tt, (tt, tt)))))) $ says ! e $
+        suffices ! _ (ends-at 𝓤 H A fun.ended stayed (fun.clauses 𝓤 H A at-mem run) W (((κ, tt), (q, tt), tt, args, at), tt) w zs
+        (tt, (tt, (tt, (tt, (tt, tt))))) (tt, (tt, (tt, (tt, (tt, tt)))))) $ says ! e $
         move ! (1 ∷ []) $ frame ! $
-        nothing ! $ owned ! Pd (Is Pd) (EL.makes P.the-type P′.the-plain 𝓤 H A) p _ is-p $ fjoin ! $ owned ! usize (Is usize) (uint-makes 𝓤 H A W w64) start _ (refl, start-fits) $ fjoin ! $
+        nothing ! $ owned ! Pd (Is Pd) (EL.makes P.the-type P′.the-plain 𝓤 H A) p _ is-p $ fjoin ! $
+        owned ! usize (Is usize) (uint-makes 𝓤 H A W w64) start _ (refl, start-fits) $ fjoin ! $
         move ! (2 ∷ 0 ∷ []) $ fjoin ! $ owned ! usize (Is usize) (uint-makes 𝓤 H A W w64) i _ (refl, i-fits) $ fjoin ! $
         owned ! All (Is All) (array-makes 𝓤 H A W R (LL.makes T.the-type T′.the-plain 𝓤 H A) 16) xs _ are $ fjoin ! $ frame ! $ done !
 
@@ -173,30 +191,40 @@ module _ {M : Type 1} (𝓤 : URA M) (H : Heap 𝓤) (A : Atoms 𝓤) (W : Given
       walk =
           qed W ((‵ (flft κ q) ⊛ ‵ ftrue) ∷ ‵ (owns (All ∷ usize ∷ ShrSlice (named 0) κ f64 ∷ usize ∷ Pd ∷ []) args at) ∷ []) ∵
           enter ! C Λ code.function (arr xs ∷ vint w64 i ∷ vt ∷ vint w64 start ∷ vp ∷ []) _ $
-          alloc1 ! (λ l₀. alloc1 ! (λ l₁. alloc1 ! (λ l₂. alloc1 ! (λ l₃. alloc1 ! (λ l₄. alloc1 ! (λ l₅. alloc1 ! (λ l₆. alloc1 ! (λ l₇. alloc1 ! (λ l₈. alloc1 ! (λ l₉. alloc0 ! $ params1 ! $
+          alloc1 ! (λ l₀. alloc1 ! (λ l₁. alloc1 ! (λ l₂. alloc1 ! (λ l₃. alloc1 !
+          (λ l₄. alloc1 ! (λ l₅. alloc1 ! (λ l₆. alloc1 ! (λ l₇. alloc1 ! (λ l₈. alloc1 ! (λ l₉. alloc0 ! $ params1 ! $
           pass1 ! (init ! 16 refl (typed xs are)) $ pass1 ! (init ! 14 refl (tt, record { fits = i-fits })) $
-          pass1 ! (init ! 12 refl (shr-slice-lawful 𝓤 H A W (named 0) κ f64 .typed t (vt ∷ []) is-t .0)) $ pass1 ! (init ! 10 refl (tt, record { fits = start-fits })) $
+          pass1 ! (init ! 12 refl (shr-slice-lawful 𝓤 H A W (named 0) κ f64 .typed t (vt ∷ []) is-t .0)) $
+          pass1 ! (init ! 10 refl (tt, record { fits = start-fits })) $
           pass1 ! (init ! 8 refl (EL.lawful P.the-type P′.the-laws 𝓤 H A W tt .typed p (vp ∷ []) is-p .0)) $ pass0 ! $
           assigns ! (of-opd ! (load ! (from ! (stop !)) (look ! 16 refl))) (from ! (stop !)) (init ! 6 refl (typed xs are)) $
           assigns ! (addr ! (from ! (stop !))) (from ! (stop !)) (init ! 2 refl (tt, tt)) $
-          assigns ! (agg ! (and-then ! (load ! (from ! (stop !)) (look ! 2 refl)) (and-then ! (lit ! tt) (no-more !)))) (from ! (stop !)) (init ! 0 refl (tt, (tt, (record { fits = omega arith }, tt)))) $
+          assigns ! (agg ! (and-then ! (load ! (from ! (stop !)) (look ! 2 refl)) (and-then ! (lit ! tt) (no-more !)))) (from ! (stop !))
+          (init ! 0 refl (tt, (tt, (record { fits = omega arith }, tt)))) $
           -- the table twice, one of them beside its token
-          move ! (21 ∷ []) $ fsplit ! $ drop ! $ fsplit ! $ drop ! $ fsplit ! $ move ! (1 ∷ []) $ drop ! $ use1 W (‵ Table ⊛ ‵ Table) (shr-slice-copy 𝓤 H A W (named 0) κ f64 .twice t (vt ∷ [])) $ split ! $
+          move ! (21 ∷ []) $ fsplit ! $ drop ! $ fsplit ! $ drop ! $ fsplit ! $ move ! (1 ∷ []) $ drop ! $
+          use1 W (‵ Table ⊛ ‵ Table) (shr-slice-copy 𝓤 H A W (named 0) κ f64 .twice t (vt ∷ [])) $ split ! $
           move ! (22 ∷ []) $ split ! $ move ! (0 ∷ 2 ∷ []) $ join ! $
           -- the array's elements are lent for a lifetime ν
           lft-new ! tt (λ ν. owned ! All (Is All) (array-makes 𝓤 H A W R (LL.makes T.the-type T′.the-plain 𝓤 H A) 16) xs _ are $ move ! (11 ∷ 0 ∷ []) $
-          use2 W (‵ (Elements 𝓤 H A W R 16 l₆ xs)) (apart 𝓤 H A W R 16 l₆ tt xs (arr xs)) $ fsplit ! $ drop ! $ use1 W (‵ (cells (mem R) xs l₆ 0)) (whole-in 𝓤 H A W R xs l₆ 0) $
-          use1 W (later (some (λ (γ : GName). ‵ (MutSlice (named 0) (ν ∷ []) R .own (s l₆ γ) (sliceVal (l₆, 0) (length xs) ∷ [])) ⊛ ‵ (flent (ν ∷ []) (Held R (length xs) l₆ 0 γ))))) (lends-slice 𝓤 H A W R (named 0) (ν ∷ []) xs l₆ 0 room) $ await ! tt $ pick ! (λ γ. split ! $
+          use2 W (‵ (Elements 𝓤 H A W R 16 l₆ xs)) (apart 𝓤 H A W R 16 l₆ tt xs (arr xs)) $ fsplit ! $ drop ! $
+          use1 W (‵ (cells (mem R) xs l₆ 0)) (whole-in 𝓤 H A W R xs l₆ 0) $
+          use1 W (later (some (λ (γ : GName). ‵ (MutSlice (named 0) (ν ∷ []) R .own (s l₆ γ) (sliceVal (l₆, 0) (length xs) ∷ [])) ⊛ ‵
+          (flent (ν ∷ []) (Held R (length xs) l₆ 0 γ))))) (lends-slice 𝓤 H A W R (named 0) (ν ∷ []) xs l₆ 0 room) $ await ! tt $ pick ! (λ γ. split ! $
           rewrite ! 0 (λ (m : ℕ). ‵ (MutSlice (named 0) (ν ∷ []) R .own (s l₆ γ) (sliceVal (l₆, 0) m ∷ []))) long refl $
-          -- [the slice; the lender's part; ν's token; the table and its token; true; the table; _9; …; _8; …; _7; …; …; _5; …; _4; …; _3; …; _2; …; _1; …; _0; …]
+          -- [the slice; the lender's part; ν's token; the table and its token; true; the table; _9; …; _8; …; _7; …; …; _5; …; _4; …; _3; …; _2; …; _1; …; _0;
+          -- …]
           move ! (2 ∷ 0 ∷ 3 ∷ []) $ use3 W (raw (Callee 𝓤 H A at-mem run .pre (to ν l₆ γ))) (goes ν l₆ γ) $
           calls-at ! fm (Callee 𝓤 H A at-mem run) known (to ν l₆ γ)
-          (and-then ! (load ! (from ! (stop !)) (look ! 4 refl)) (and-then ! (load ! (from ! (stop !)) (look ! 17 refl)) (and-then ! (load ! (from ! (stop !)) (look ! 15 refl))
+          (and-then ! (load ! (from ! (stop !)) (look ! 4 refl)) (and-then ! (load ! (from ! (stop !)) (look ! 17 refl))
+          (and-then ! (load ! (from ! (stop !)) (look ! 15 refl))
           (and-then ! (load ! (from ! (stop !)) (look ! 13 refl)) (and-then ! (load ! (from ! (stop !)) (look ! 11 refl)) (no-more !)))))) (λ w.
-          use1 W (later (some (λ (r : Unit {0}). ((‵ (flft (ν ∷ []) fullShare) ⊛ ‵ (flft κ q) ⊛ ‵ ftrue) ⊛ ‵ (Nothing .own r (w ∷ []))) ⊛ raw (ensured 𝓤 H A callee.ended (callee.clauses 𝓤 H A at-mem run) (ν ∷ [], (κ, tt)) (passed l₆ γ) tt r)))) (id⊢ 𝓤 _) $ await ! tt $ pick ! (λ r.
+          use1 W (later (some (λ (r : Unit {0}). ((‵ (flft (ν ∷ []) fullShare) ⊛ ‵ (flft κ q) ⊛ ‵ ftrue) ⊛ ‵ (Nothing .own r (w ∷ []))) ⊛ raw
+          (ensured 𝓤 H A callee.ended (callee.clauses 𝓤 H A at-mem run) (ν ∷ [], (κ, tt)) (passed l₆ γ) tt r)))) (id⊢ 𝓤 _) $ await ! tt $ pick ! (λ r.
           -- what `measure_loop` ensures, at some last list
           split ! $ move ! (1 ∷ []) $
-          use1 W (some (λ (zs : List LoopRecord × (Unit {0} × (Unit {0} × (Unit {0} × (Unit {0} × Unit {0}))))). ‵ (lasts callee.ended (ν ∷ [], (κ, tt)) (passed l₆ γ) zs) ⊛ raw (fact 𝓤 (zs .0 ≡ set xs i found)))) (id⊢ 𝓤 _) $ pick ! (λ zs.
+          use1 W (some (λ (zs : List LoopRecord × (Unit {0} × (Unit {0} × (Unit {0} × (Unit {0} × Unit {0}))))). ‵
+          (lasts callee.ended (ν ∷ [], (κ, tt)) (passed l₆ γ) zs) ⊛ raw (fact 𝓤 (zs .0 ≡ set xs i found)))) (id⊢ 𝓤 _) $ pick ! (λ zs.
           split ! $ move ! (1 ∷ []) $ heard ! (zs .0 ≡ set xs i found) (λ e. fsplit ! $ fsplit ! $ move ! (1 ∷ []) $ feqL ! (λ l.
           move ! (2 ∷ []) $ split ! $ move ! (1 ∷ []) $ feqL ! (λ u.
           -- [the tokens; the last list; true; the lender's part; true; the table; _9; …; _8; …; _7; …; …; _5; …; _4; …; _3; …; _2; …; _1; …; _0; …]
@@ -205,24 +233,36 @@ module _ {M : Type 1} (𝓤 : URA M) (H : Heap 𝓤) (A : Atoms 𝓤) (W : Given
           split ! $ lft-end ! tt $ move ! (0 ∷ 4 ∷ 2 ∷ []) $
           use3 W (later (‵ (Arr (mem R) (length xs) .lies (zs .0) l₆ 0))) (slice-back 𝓤 H A W R (ν ∷ []) γ (zs .0) (length xs) l₆ 0) $ await ! tt $
           fsplit ! $ drop ! $ use1 W (‵ (row R fullShare (zs .0) l₆ 0)) (whole-out 𝓤 H A W R (zs .0) l₆ 0) $ feqI ! ℕ (length (zs .0)) 16 (l ∙ long) $ fjoin ! $
-          use1 W (‵ (fat fullShare (tyArray (lone (R .mir)) 16) l₆ 0 (arr (zs .0))) ⊛ ‵ (All .own (zs .0) (arr (zs .0) ∷ []))) (together 𝓤 H A W R 16 l₆ valsOf (LL.tells T.the-type T′.the-laws) (zs .0)) $ split ! $
+          use1 W (‵ (fat fullShare (tyArray (lone (R .mir)) 16) l₆ 0 (arr (zs .0))) ⊛ ‵ (All .own (zs .0) (arr (zs .0) ∷ [])))
+          (together 𝓤 H A W R 16 l₆ valsOf (LL.tells T.the-type T′.the-laws) (zs .0)) $ split ! $
           move ! (1 ∷ []) $ peeks ! All (Is All) (shows 𝓤 H A All) (zs .0) (arr (zs .0) ∷ []) (λ g.
           -- [what the array owns; _6; the table's token; true; true; the table; _9; …; _8; …; _7; …; …; _5; …; _4; …; _3; …; _2; …; _1; …; _0; …]
           assigns ! (of-opd ! (load ! (from ! (stop !)) (look ! 1 refl))) (from ! (stop !)) (init ! 23 refl (typed (zs .0) g)) $
-          returns ! (look ! 23 refl) $ forget ! 1 refl $ forget ! 6 refl $ forget ! 8 refl $ forget ! 10 refl $ forget ! 13 refl $ forget ! 15 refl $ forget ! 17 refl $ forget ! 19 refl $ forget ! 21 refl $ forget ! 23 refl $
-          move ! (23 ∷ 24 ∷ []) $ free1 ! $ move ! (21 ∷ 22 ∷ []) $ free1 ! $ move ! (19 ∷ 20 ∷ []) $ free1 ! $ move ! (17 ∷ 18 ∷ []) $ free1 ! $ move ! (15 ∷ 16 ∷ []) $ free1 ! $
-          move ! (13 ∷ 14 ∷ []) $ free1 ! $ move ! (1 ∷ 12 ∷ []) $ free1 ! $ move ! (9 ∷ 10 ∷ []) $ free1 ! $ move ! (7 ∷ 8 ∷ []) $ free1 ! $ move ! (5 ∷ 6 ∷ []) $ free1 ! $ free0 ! $
+          returns ! (look ! 23 refl) $ forget ! 1 refl $ forget ! 6 refl $ forget ! 8 refl $ forget ! 10 refl $ forget ! 13 refl $ forget ! 15 refl $
+          forget ! 17 refl $ forget ! 19 refl $ forget ! 21 refl $ forget ! 23 refl $
+          move ! (23 ∷ 24 ∷ []) $ free1 ! $ move ! (21 ∷ 22 ∷ []) $ free1 ! $ move ! (19 ∷ 20 ∷ []) $ free1 ! $ move ! (17 ∷ 18 ∷ []) $ free1 ! $
+          move ! (15 ∷ 16 ∷ []) $ free1 ! $
+          move ! (13 ∷ 14 ∷ []) $ free1 ! $ move ! (1 ∷ 12 ∷ []) $ free1 ! $ move ! (9 ∷ 10 ∷ []) $ free1 ! $ move ! (7 ∷ 8 ∷ []) $ free1 ! $
+          move ! (5 ∷ 6 ∷ []) $ free1 ! $ free0 ! $
           keep ! (0 ∷ 1 ∷ 4 ∷ []) $ by ! (exits (zs .0) (arr (zs .0)) e))))))))))))))))))))
 
 module _ {M : Type 1} (𝓤 : URA M) (H : Heap 𝓤) (A : Atoms 𝓤) (W : Given 𝓤 H A) (at-mem : Memory → SProp 𝓤) (run : Routine → Fun 𝓤) where
-  walks : (C : Calls 𝓤 H) (Λ : Loops 𝓤 H) → FmC 𝓤 H (W .laws) C → Triple 𝓤 (C #callee) (Callee 𝓤 H A at-mem run) → Walks 𝓤 H A fun.ended stayed (WpFn 𝓤 H C Λ code.function) (fun.clauses 𝓤 H A at-mem run)
+  walks : (C : Calls 𝓤 H) (Λ : Loops 𝓤 H) → FmC 𝓤 H (W .laws) C → Triple 𝓤 (C #callee) (Callee 𝓤 H A at-mem run)
+      → Walks 𝓤 H A fun.ended stayed (WpFn 𝓤 H C Λ code.function) (fun.clauses 𝓤 H A at-mem run)
   walks C Λ fm known = walked 𝓤 H A fun.ended stayed (fun.clauses 𝓤 H A at-mem run) (WpFn 𝓤 H C Λ code.function)
       (λ κs. (array-vals valsOf, (uint-vals w64, (slice-vals, (uint-vals w64, (EL.vals P.the-type P′.the-laws, tt))))))
-      (λ κs. (array-tells R valsOf (LL.tells T.the-type T′.the-laws) 16, (uint-tells w64, (shr-slice-tells (named 0) (κs .0) f64, (uint-tells w64, (EL.tells P.the-type P′.the-laws, tt))))))
+      (λ κs. (
+        array-tells R valsOf (LL.tells T.the-type T′.the-laws) 16,
+        (
+          uint-tells w64,
+          (shr-slice-tells (named 0) (κs .0) f64, (uint-tells w64, (EL.tells P.the-type P′.the-laws, tt))),
+        ),
+      ))
       (λ κs qs bounds a g are. needs 𝓤 _ _ (λ within. walk 𝓤 H A W at-mem run (κs .0) (qs .0) (a .0) (a .1 .0) (a .1 .1 .0) (a .1 .1 .1 .0) (a .1 .1 .1 .1 .0)
       (are .0) (are .1 .0 .1) (are .1 .1 .1 .0 .1) (are .1 .1 .0) (are .1 .1 .1 .1 .0) within C Λ fm known))
 
-meets : {M : Type 1} (𝓤 : URA M) (H : Heap 𝓤) (A : Atoms 𝓤) → Given 𝓤 H A → (at-mem : Memory → SProp 𝓤) (run : Routine → Fun 𝓤) (𝓣 : Tables 𝓤 H) → Triple 𝓤 (𝓣 .C #callee) (Callee 𝓤 H A at-mem run)
+meets : {M : Type 1} (𝓤 : URA M) (H : Heap 𝓤) (A : Atoms 𝓤) → Given 𝓤 H A → (at-mem : Memory → SProp 𝓤) (run : Routine → Fun 𝓤) (𝓣 : Tables 𝓤 H)
+    → Triple 𝓤 (𝓣 .C #callee) (Callee 𝓤 H A at-mem run)
     → Meets 𝓤 H A fun.signature (WpFn 𝓤 H (𝓣 .C) (𝓣 .Λ) code.function) (fun.spec 𝓤 H A at-mem run)
 meets 𝓤 H A W at-mem run 𝓣 known =
     walk-meets 𝓤 H A fun.ended stayed W (
@@ -243,4 +283,5 @@ with-loop-spec 𝓤 H 𝓜 𝓖 𝓡 =
     entered 𝓤 H (tripleOf 𝓤 H (𝓖 .A) fun.signature (fun.spec 𝓤 H (𝓖 .A) (𝓜 .mem) (𝓡 .run)))
     (tables 𝓤 H 𝓜 𝓡 code.env .C) (tables 𝓤 H 𝓜 𝓡 code.env .Λ) #key code.function (code.unfolded 𝓤 H 𝓜 𝓡)
     (meets 𝓤 H (𝓖 .A) (givenOf 𝓤 H 𝓜 𝓖) (𝓜 .mem) (𝓡 .run) (tablesOf 𝓤 H 𝓜 (tables 𝓤 H 𝓜 𝓡 code.env))
-    (cited 𝓤 H (Callee 𝓤 H (𝓖 .A) (𝓜 .mem) (𝓡 .run)) 𝓜 𝓡 code.env #callee callee-def.routine code.calls-loop-records·measure·measure-loop (callee-thm.met 𝓤 H 𝓜 𝓖 𝓡)))
+    (cited 𝓤 H (Callee 𝓤 H (𝓖 .A) (𝓜 .mem) (𝓡 .run)) 𝓜 𝓡 code.env #callee callee-def.routine code.calls-loop-records·measure·measure-loop
+    (callee-thm.met 𝓤 H 𝓜 𝓖 𝓡)))

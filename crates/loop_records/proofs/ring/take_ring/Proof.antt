@@ -1,6 +1,8 @@
 -- `loop_records::ring::take_ring` meets its contract: a walk of its MIR, by hand. All that it knows of `copy_ring` is that it meets its contract.
--- The place of `loops[i]` is i times 32 past the slice's pointer, and the record is read there whole. The list and the table are Copy: what each owns is had twice,
--- and one copy is kept for the exit. The destination is given to `copy_ring` for good, at its own lifetime: what is said there of its last list is what is said here.
+-- The place of `loops[i]` is i times 32 past the slice's pointer, and the record is read there whole. The list and the table are Copy: what each owns is had
+-- twice,
+-- and one copy is kept for the exit. The destination is given to `copy_ring` for good, at its own lifetime: what is said there of its last list is what is said
+-- here.
 -- Assumes nothing.
 use mathlib.Core.Path.{_≡_, refl, sym, ap, subst}
 use Prim.Native.Nat.{ℕ, _<_, _*_, _^_}
@@ -133,28 +135,33 @@ module _ {M : Type 1} (𝓤 : URA M) (H : Heap 𝓤) (A : Atoms 𝓤) (W : Given
   abbrev Copied : List Float → Type 0
   Copied zs = rows zs ≡ taken (elem .start) (elem .count) (rows (t .now)) (rows ds)
 
-  module _ (room : Room f64 (length ds)) (is-t : Is (ShrSlice (named 1) κ₁ f64) t (vt ∷ [])) (is-s : Is (ShrSlice (named 2) κ₂ R) s (v ∷ [])) (i-fits : i < 2 ^ 64) (within : i < length ys) where
+  module _ (room : Room f64 (length ds)) (is-t : Is (ShrSlice (named 1) κ₁ f64) t (vt ∷ [])) (is-s : Is (ShrSlice (named 2) κ₂ R) s (v ∷ []))
+      (i-fits : i < 2 ^ 64) (within : i < length ys) where
     module _ (g : Is R elem (mach ∷ [])) where
       typed : Holds (hasTy (T′.mir) mach) × WT mach
       typed = LL.lawful T.the-type T′.the-laws 𝓤 H A W .typed elem (mach ∷ []) g .0
 
-      goes : ent 𝓤 (sep 𝓤 (A .lft κ q) (sep 𝓤 (sem 𝓤 H A (MutSlice (named 0) κ f64 .own d (vd ∷ []))) (sep 𝓤 (A .lft κ₁ q₁) (sem 𝓤 H A Table)))) (Callee 𝓤 H A mem run .pre to)
+      goes : ent 𝓤 (sep 𝓤 (A .lft κ q) (sep 𝓤 (sem 𝓤 H A (MutSlice (named 0) κ f64 .own d (vd ∷ []))) (sep 𝓤 (A .lft κ₁ q₁) (sem 𝓤 H A Table))))
+          (Callee 𝓤 H A mem run .pre to)
       goes =
           let fields = LL.owed T.the-type T′.the-laws elem _ g in
           qed W (‵ (flft κ q) ∷ ‵ (MutSlice (named 0) κ f64 .own d (vd ∷ [])) ∷ (‵ (flft κ₁ q₁) ⊛ ‵ Table) ∷ []) ∵
           move ! (2 ∷ []) $ split ! $ nothing ! $ move ! (1 ∷ 0 ∷ []) $ join ! $ move ! (2 ∷ 0 ∷ []) $ join ! $
           -- [the tokens; the table; the destination]
-          nothing ! $ owned ! usize (Is usize) (uint-makes 𝓤 H A W w64) (elem .count) _ (refl, fields .1 .0 .1) $ fjoin ! $ owned ! usize (Is usize) (uint-makes 𝓤 H A W w64) (elem .start) _ (refl, fields .0 .1) $ fjoin ! $
+          nothing ! $ owned ! usize (Is usize) (uint-makes 𝓤 H A W w64) (elem .count) _ (refl, fields .1 .0 .1) $ fjoin ! $
+          owned ! usize (Is usize) (uint-makes 𝓤 H A W w64) (elem .start) _ (refl, fields .0 .1) $ fjoin ! $
           move ! (2 ∷ 0 ∷ []) $ fjoin ! $ move ! (2 ∷ 0 ∷ []) $ fjoin ! $ move ! (1 ∷ 0 ∷ []) $ join ! $ frame ! $ done !
 
       exits : (zs : List Float) → Copied zs → length zs ≡ length ds
           → ent 𝓤 (⋆ 𝓤 H A ((‵ (flft κ q) ⊛ ‵ (flft κ₁ q₁) ⊛ ‵ ftrue) ∷ ‵ (finally f64 γ zs) ∷ ‵ Table ∷ ‵ (flft κ₂ q₂) ∷ ‵ Loopss ∷ [])) (Post mach)
       exits zs copied l =
           qed W ((‵ (flft κ q) ⊛ ‵ (flft κ₁ q₁) ⊛ ‵ ftrue) ∷ ‵ (finally f64 γ zs) ∷ ‵ Table ∷ ‵ (flft κ₂ q₂) ∷ ‵ Loopss ∷ []) ∵
-          suffices ! _ (ends-at 𝓤 H A fun.ended stayed (fun.clauses 𝓤 H A mem run) W ((κs, (q, (q₁, (q₂, tt))), tt, args, at), tt) mach elem (zs, (tt, (tt, (tt, tt)))) (l, (tt, (tt, (tt, tt))))) $ says ! (refl, copied) $
+          suffices ! _ (ends-at 𝓤 H A fun.ended stayed (fun.clauses 𝓤 H A mem run) W ((κs, (q, (q₁, (q₂, tt))), tt, args, at), tt) mach elem
+          (zs, (tt, (tt, (tt, tt)))) (l, (tt, (tt, (tt, tt))))) $ says ! (refl, copied) $
           split ! $ move ! (1 ∷ []) $ split ! $ move ! (5 ∷ 1 ∷ []) $ join ! $ move ! (1 ∷ 0 ∷ []) $ join ! $ move ! (1 ∷ 0 ∷ []) $ join ! $ frame ! $
           -- [the last list; the table; the list]
-          nothing ! $ owned ! usize (Is usize) (uint-makes 𝓤 H A W w64) i _ (refl, i-fits) $ fjoin ! $ move ! (3 ∷ 0 ∷ []) $ fjoin ! $ move ! (2 ∷ 0 ∷ []) $ fjoin ! $ move ! (1 ∷ 0 ∷ []) $ fjoin ! $ frame ! $
+          nothing ! $ owned ! usize (Is usize) (uint-makes 𝓤 H A W w64) i _ (refl, i-fits) $ fjoin ! $ move ! (3 ∷ 0 ∷ []) $ fjoin ! $ move ! (2 ∷ 0 ∷ []) $
+          fjoin ! $ move ! (1 ∷ 0 ∷ []) $ fjoin ! $ frame ! $
           owned ! R (Is R) (LL.makes T.the-type T′.the-plain 𝓤 H A) elem _ g $ done !
 
     module _ (C : Calls 𝓤 H) (Λ : Loops 𝓤 H) (fm : FmC 𝓤 H (W .laws) C) (known : Triple 𝓤 (C #callee) (Callee 𝓤 H A mem run)) where
@@ -162,36 +169,49 @@ module _ {M : Type 1} (𝓤 : URA M) (H : Heap 𝓤) (A : Atoms 𝓤) (W : Given
       walk =
           let far : length ys * 32 < 2 ^ 63 = is-s .0 .1 .1 in
           let fits : i * 32 < 2 ^ 64 = omega arith in
-          qed W ((‵ (flft κ q) ⊛ ‵ (flft κ₁ q₁) ⊛ ‵ (flft κ₂ q₂) ⊛ ‵ ftrue) ∷ ‵ (owns (MutSlice (named 0) κ f64 ∷ ShrSlice (named 1) κ₁ f64 ∷ ShrSlice (named 2) κ₂ R ∷ usize ∷ []) args at) ∷ []) ∵
+          qed W ((‵ (flft κ q) ⊛ ‵ (flft κ₁ q₁) ⊛ ‵ (flft κ₂ q₂) ⊛ ‵ ftrue) ∷ ‵
+          (owns (MutSlice (named 0) κ f64 ∷ ShrSlice (named 1) κ₁ f64 ∷ ShrSlice (named 2) κ₂ R ∷ usize ∷ []) args at) ∷ []) ∵
           enter ! C Λ code.function (vd ∷ vt ∷ v ∷ vint w64 i ∷ []) _ $
-          alloc1 ! (λ l₀. alloc1 ! (λ l₁. alloc1 ! (λ l₂. alloc1 ! (λ l₃. alloc1 ! (λ l₄. alloc1 ! (λ l₅. alloc1 ! (λ l₆. alloc1 ! (λ l₇. alloc1 ! (λ l₈. alloc1 ! (λ l₉. alloc1 ! (λ l₁₀. alloc1 ! (λ l₁₁. alloc0 ! $ params1 ! $
-          pass1 ! (init ! 20 refl (tt, (tt, (record { fits = room .0 }, tt)))) $ pass1 ! (init ! 18 refl (shr-slice-lawful 𝓤 H A W (named 1) κ₁ f64 .typed t (vt ∷ []) is-t .0)) $
-          pass1 ! (init ! 16 refl (shr-slice-lawful 𝓤 H A W (named 2) κ₂ R .typed s (v ∷ []) is-s .0)) $ pass1 ! (init ! 14 refl (tt, record { fits = i-fits })) $ pass0 ! $
-          assigns ! (bin ! (load ! (from ! (stop !)) (look ! 14 refl)) (lit ! tt) (record { fits = fits })) (from ! (stop !)) (init ! 10 refl (tt, record { fits = fits })) $
-          assigns ! (bin ! (load ! (from ! (fld ! refl (stop !))) (look-in ! 16 (sub ! 0 refl (whole !)))) (load ! (from ! (stop !)) (look ! 10 refl)) tt) (from ! (stop !)) (init ! 8 refl (tt, tt)) $
+          alloc1 ! (λ l₀. alloc1 ! (λ l₁. alloc1 ! (λ l₂. alloc1 ! (λ l₃. alloc1 !
+          (λ l₄. alloc1 ! (λ l₅. alloc1 ! (λ l₆. alloc1 ! (λ l₇. alloc1 ! (λ l₈. alloc1 ! (λ l₉. alloc1 ! (λ l₁₀. alloc1 ! (λ l₁₁. alloc0 ! $ params1 ! $
+          pass1 ! (init ! 20 refl (tt, (tt, (record { fits = room .0 }, tt)))) $
+          pass1 ! (init ! 18 refl (shr-slice-lawful 𝓤 H A W (named 1) κ₁ f64 .typed t (vt ∷ []) is-t .0)) $
+          pass1 ! (init ! 16 refl (shr-slice-lawful 𝓤 H A W (named 2) κ₂ R .typed s (v ∷ []) is-s .0)) $
+          pass1 ! (init ! 14 refl (tt, record { fits = i-fits })) $ pass0 ! $
+          assigns ! (bin ! (load ! (from ! (stop !)) (look ! 14 refl)) (lit ! tt) (record { fits = fits })) (from ! (stop !))
+          (init ! 10 refl (tt, record { fits = fits })) $
+          assigns ! (bin ! (load ! (from ! (fld ! refl (stop !))) (look-in ! 16 (sub ! 0 refl (whole !)))) (load ! (from ! (stop !)) (look ! 10 refl)) tt)
+          (from ! (stop !)) (init ! 8 refl (tt, tt)) $
           rewrite ! 8 (λ (a : ℕ). ‵ (fat fullShare tyPtr l₇ 0 (vptr b a))) (sym (place-is 32 o i)) refl $
           -- [_11; …; _0; …; the tokens; what the parameters own]
           move ! (25 ∷ []) $ fsplit ! $ move ! (1 ∷ []) $ fsplit ! $ move ! (1 ∷ []) $ fsplit ! $ move ! (1 ∷ []) $ drop ! $
           use1 W (‵ Loopss ⊛ ‵ Loopss) (shr-slice-copy 𝓤 H A W (named 2) κ₂ R .twice s (v ∷ [])) $ split ! $ fsplit ! $ drop ! $ fsplit ! $ drop ! $
           move ! (28 ∷ []) $ split ! $ move ! (1 ∷ []) $ split ! $ move ! (1 ∷ []) $ split ! $ move ! (4 ∷ 0 ∷ []) $
-          looks-slice ! tt R (Is R) (shows 𝓤 H A R) (LL.vals T.the-type T′.the-laws) (LL.tells T.the-type T′.the-laws) ((LL.copy T.the-type T′.the-copy) 𝓤 H A W) ys b o (λ q′.
+          looks-slice ! tt R (Is R) (shows 𝓤 H A R) (LL.vals T.the-type T′.the-laws) (LL.tells T.the-type T′.the-laws)
+          ((LL.copy T.the-type T′.the-copy) 𝓤 H A W) ys b o (λ q′.
           elem-out ! R (Is R) (shows 𝓤 H A R) (LL.vals T.the-type T′.the-laws) (LL.tells T.the-type T′.the-laws) q′ ys i noLoop b o within (λ g.
-          -- [loops[i]; what it owns; the others; what shuts; the fractured borrow; true; the table's token; the destination's; the list; the table; the destination; _11; …]
+          -- [loops[i]; what it owns; the others; what shuts; the fractured borrow; true; the table's token; the destination's; the list; the table; the
+          -- destination; _11; …]
           assigns ! (of-opd ! (load ! (from ! (hop ! (look ! 19 refl) (stop !))) (look-raw ! 0 refl))) (from ! (stop !)) (init ! 17 refl (typed g)) $
           assigns ! (of-opd ! (load ! (from ! (stop !)) (look ! 17 refl))) (from ! (stop !)) (init ! 23 refl (typed g)) $
           elem-back ! R q′ ys i noLoop (mach ∷ []) b o within $ shuts-slice ! tt R q′ ys b o $
           -- [the list's token; the fractured borrow; true; the table's token; the destination's; the list; the table; the destination; _11; …]
           assigns ! (addr ! (from ! (fld ! refl (hop ! (look-in ! 28 (sub ! 0 refl (whole !))) (stop !))))) (from ! (stop !)) (init ! 10 refl (tt, tt)) $
-          assigns ! (agg ! (and-then ! (load ! (from ! (stop !)) (look ! 10 refl)) (and-then ! (load ! (from ! (fld ! refl (stop !))) (look-in ! 28 (sub ! 1 refl (whole !)))) (no-more !)))) (from ! (stop !)) (init ! 8 refl (tt, (tt, (record { fits = room .0 }, tt)))) $
+          assigns ! (agg ! (and-then ! (load ! (from ! (stop !)) (look ! 10 refl))
+          (and-then ! (load ! (from ! (fld ! refl (stop !))) (look-in ! 28 (sub ! 1 refl (whole !)))) (no-more !)))) (from ! (stop !))
+          (init ! 8 refl (tt, (tt, (record { fits = room .0 }, tt)))) $
           move ! (6 ∷ []) $ use1 W (‵ Table ⊛ ‵ Table) (shr-slice-copy 𝓤 H A W (named 1) κ₁ f64 .twice t (vt ∷ [])) $ split ! $
           move ! (5 ∷ 0 ∷ []) $ join ! $ move ! (5 ∷ 7 ∷ 0 ∷ []) $ use3 W (raw (Callee 𝓤 H A mem run .pre to)) (goes g) $
           -- [what `copy_ring` asks; the table; the list's token; the fractured borrow; true; the list; _11; …]
           calls-at ! fm (Callee 𝓤 H A mem run) known to
           (and-then ! (load ! (from ! (stop !)) (look ! 6 refl)) (and-then ! (load ! (from ! (stop !)) (look ! 24 refl))
-          (and-then ! (load ! (from ! (fld ! refl (stop !))) (look-in ! 18 (sub ! 0 refl (whole !)))) (and-then ! (load ! (from ! (fld ! refl (stop !))) (look-in ! 18 (sub ! 1 refl (whole !)))) (no-more !))))) (λ w.
-          use1 W (later (some (λ (r : Unit {0}). ((‵ (flft κ q) ⊛ ‵ (flft κ₁ q₁) ⊛ ‵ ftrue) ⊛ ‵ (Nothing .own r (w ∷ []))) ⊛ raw (ensured 𝓤 H A callee.ended (callee.clauses 𝓤 H A mem run) (κ, (κ₁, tt)) passed tt r)))) (id⊢ 𝓤 _) $ await ! tt $ pick ! (λ r.
+          (and-then ! (load ! (from ! (fld ! refl (stop !))) (look-in ! 18 (sub ! 0 refl (whole !))))
+          (and-then ! (load ! (from ! (fld ! refl (stop !))) (look-in ! 18 (sub ! 1 refl (whole !)))) (no-more !))))) (λ w.
+          use1 W (later (some (λ (r : Unit {0}). ((‵ (flft κ q) ⊛ ‵ (flft κ₁ q₁) ⊛ ‵ ftrue) ⊛ ‵ (Nothing .own r (w ∷ []))) ⊛ raw
+          (ensured 𝓤 H A callee.ended (callee.clauses 𝓤 H A mem run) (κ, (κ₁, tt)) passed tt r)))) (id⊢ 𝓤 _) $ await ! tt $ pick ! (λ r.
           -- what `copy_ring` ensures, at some last list
-          split ! $ move ! (1 ∷ []) $ use1 W (some (λ (zs : List Float × (Unit {0} × (Unit {0} × (Unit {0} × Unit {0})))). ‵ (lasts callee.ended (κ, (κ₁, tt)) passed zs) ⊛ raw (fact 𝓤 (Copied (zs .0))))) (id⊢ 𝓤 _) $ pick ! (λ zs.
+          split ! $ move ! (1 ∷ []) $ use1 W (some (λ (zs : List Float × (Unit {0} × (Unit {0} × (Unit {0} × Unit {0})))). ‵
+          (lasts callee.ended (κ, (κ₁, tt)) passed zs) ⊛ raw (fact 𝓤 (Copied (zs .0))))) (id⊢ 𝓤 _) $ pick ! (λ zs.
           split ! $ move ! (1 ∷ []) $ heard ! (Copied (zs .0)) (λ copied. fsplit ! $ fsplit ! $ move ! (1 ∷ []) $ feqL ! (λ l.
           move ! (2 ∷ []) $ split ! $ move ! (1 ∷ []) $ feqL ! (λ u.
           -- [the tokens; the last list; true; the table; the list's token; the fractured borrow; true; the list; _11; …]
@@ -199,21 +219,31 @@ module _ {M : Type 1} (𝓤 : URA M) (H : Heap 𝓤) (A : Atoms 𝓤) (W : Given
           assigns ! (of-opd ! (load ! (from ! (stop !)) (look ! 20 refl))) (from ! (stop !)) (init ! 30 refl (typed g)) $
           returns ! (look ! 30 refl) $ forget ! 8 refl $ forget ! 10 refl $ forget ! 12 refl $ forget ! 14 refl $ forget ! 16 refl $ forget ! 18 refl $
           forget ! 20 refl $ forget ! 22 refl $ forget ! 24 refl $ forget ! 26 refl $ forget ! 28 refl $ forget ! 30 refl $
-          move ! (30 ∷ 31 ∷ []) $ free1 ! $ move ! (28 ∷ 29 ∷ []) $ free1 ! $ move ! (26 ∷ 27 ∷ []) $ free1 ! $ move ! (24 ∷ 25 ∷ []) $ free1 ! $ move ! (22 ∷ 23 ∷ []) $ free1 ! $ move ! (20 ∷ 21 ∷ []) $ free1 ! $
-          move ! (18 ∷ 19 ∷ []) $ free1 ! $ move ! (16 ∷ 17 ∷ []) $ free1 ! $ move ! (14 ∷ 15 ∷ []) $ free1 ! $ move ! (12 ∷ 13 ∷ []) $ free1 ! $ move ! (10 ∷ 11 ∷ []) $ free1 ! $ move ! (8 ∷ 9 ∷ []) $ free1 ! $ free0 ! $
+          move ! (30 ∷ 31 ∷ []) $ free1 ! $ move ! (28 ∷ 29 ∷ []) $ free1 ! $ move ! (26 ∷ 27 ∷ []) $ free1 ! $ move ! (24 ∷ 25 ∷ []) $ free1 ! $
+          move ! (22 ∷ 23 ∷ []) $ free1 ! $ move ! (20 ∷ 21 ∷ []) $ free1 ! $
+          move ! (18 ∷ 19 ∷ []) $ free1 ! $ move ! (16 ∷ 17 ∷ []) $ free1 ! $ move ! (14 ∷ 15 ∷ []) $ free1 ! $ move ! (12 ∷ 13 ∷ []) $ free1 ! $
+          move ! (10 ∷ 11 ∷ []) $ free1 ! $ move ! (8 ∷ 9 ∷ []) $ free1 ! $ free0 ! $
           keep ! (0 ∷ 1 ∷ 3 ∷ 4 ∷ 7 ∷ []) $ by ! (exits g (zs .0) copied l)))))))))))))))))))))
 
 module _ {M : Type 1} (𝓤 : URA M) (H : Heap 𝓤) (A : Atoms 𝓤) (W : Given 𝓤 H A) (mem : Memory → SProp 𝓤) (run : Routine → Fun 𝓤) where
-  walks : (C : Calls 𝓤 H) (Λ : Loops 𝓤 H) → FmC 𝓤 H (W .laws) C → Triple 𝓤 (C #callee) (Callee 𝓤 H A mem run) → Walks 𝓤 H A fun.ended stayed (WpFn 𝓤 H C Λ code.function) (fun.clauses 𝓤 H A mem run)
+  walks : (C : Calls 𝓤 H) (Λ : Loops 𝓤 H) → FmC 𝓤 H (W .laws) C → Triple 𝓤 (C #callee) (Callee 𝓤 H A mem run)
+      → Walks 𝓤 H A fun.ended stayed (WpFn 𝓤 H C Λ code.function) (fun.clauses 𝓤 H A mem run)
   walks C Λ fm known = walked 𝓤 H A fun.ended stayed (fun.clauses 𝓤 H A mem run) (WpFn 𝓤 H C Λ code.function)
       (λ κs. (slice-vals, (slice-vals, (slice-vals, (uint-vals w64, tt)))))
-      (λ κs. (mut-slice-tells (named 0) (κs .0) f64, (shr-slice-tells (named 1) (κs .1 .0) f64, (shr-slice-tells (named 2) (κs .1 .1 .0) R, (uint-tells w64, tt)))))
+      (λ κs. (
+        mut-slice-tells (named 0) (κs .0) f64,
+        (
+          shr-slice-tells (named 1) (κs .1 .0) f64,
+          (shr-slice-tells (named 2) (κs .1 .1 .0) R, (uint-tells w64, tt)),
+        ),
+      ))
       (λ κs qs bounds a g are. needs 𝓤 _ _ (λ within.
       walk 𝓤 H A W mem run (κs .0) (κs .1 .0) (κs .1 .1 .0) (qs .0) (qs .1 .0) (qs .1 .1 .0) (a .0 .ptr .0) (a .0 .ptr .1) (a .0 .name) (a .0 .now) (a .1 .0)
       (a .1 .1 .0 .ptr .0) (a .1 .1 .0 .ptr .1) (a .1 .1 .0 .name) (a .1 .1 .0 .now) (a .1 .1 .1 .0)
       (are .0 .0 .1) (are .1 .0) (are .1 .1 .0) (are .1 .1 .1 .0 .1) within C Λ fm known))
 
-meets : {M : Type 1} (𝓤 : URA M) (H : Heap 𝓤) (A : Atoms 𝓤) → Given 𝓤 H A → (mem : Memory → SProp 𝓤) (run : Routine → Fun 𝓤) (𝓣 : Tables 𝓤 H) → Triple 𝓤 (𝓣 .C #callee) (Callee 𝓤 H A mem run)
+meets : {M : Type 1} (𝓤 : URA M) (H : Heap 𝓤) (A : Atoms 𝓤) → Given 𝓤 H A → (mem : Memory → SProp 𝓤) (run : Routine → Fun 𝓤) (𝓣 : Tables 𝓤 H)
+    → Triple 𝓤 (𝓣 .C #callee) (Callee 𝓤 H A mem run)
     → Meets 𝓤 H A fun.signature (WpFn 𝓤 H (𝓣 .C) (𝓣 .Λ) code.function) (fun.spec 𝓤 H A mem run)
 meets 𝓤 H A W mem run 𝓣 known =
     walk-meets 𝓤 H A fun.ended stayed W (

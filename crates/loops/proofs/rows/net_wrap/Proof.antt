@@ -1,18 +1,13 @@
-use Rattle.loops.proofs.rows.Reading.{net-few, net-more}
-use borrow.Author.Needs.{needs, sfits-of}
-use mathlib.Core.Path.{_∙_}
-use mir.Facts.{toZ-ofZ}
+use Rattle.loops.proofs.rows.Reading.{wraps-every, wraps-none}
+use borrow.Author.Needs.{needs}
 use Rattle.loops.proofs.rows.net_wrap.Statement.{statement}
 use Rattle.loops.proofs.rows.net_wrap.Tie as tie
 
 returns : tie.Need-returns
-returns c = net-few _ _ (c .before .count .ensures .0) _ (c .if1 .taken)
+returns c = search (wraps-every, needs)
 
 returns-2 : tie.Need-returns-2
-returns-2 c =
-    toZ-ofZ (sfits-of (c .turns-counted .ok)) ∙ c .turns-counted .ensures ∙ net-more _ _ (c .before .before .before .before .count .ensures .0) _ _ _
-    (c .before .before .u-at .ensures) (c .before .u-at2 .ensures) (c .before .before .before .if1 .left)
+returns-2 c = search (wraps-none, needs)
 
 pub net-wrap-spec : {M : Type 1} → statement M
-net-wrap-spec =
-    tie.close (tie.spec (λ c κs. search needs) returns (λ c. search needs) (λ c κs. search needs) (λ c κs. search needs) (λ c κs. search needs) returns-2)
+net-wrap-spec = tie.close (tie.spec (λ c. search needs) (λ c κs. search needs) (λ c. search needs) returns returns-2)

@@ -1,6 +1,6 @@
 use borrow.Author.Needs.{needs}
 use Prim.Native.Nat.{_-_}
-use Rattle.tables.specs.Columns.{partOf}
+use Rattle.tables.specs.Columns.{entryOf}
 use Rattle.tables.specs.Rows.{cornerOf}
 use Rattle.tables.proofs.Taking.{Taking, taking, taking-corner, taking-end, taking-none}
 use native.Mathlib.Omega.{arith}
@@ -8,7 +8,7 @@ use Rattle.tables.proofs.columns.column_into.Statement.{statement}
 use Rattle.tables.proofs.columns.column_into.Tie as tie
 
 abbrev Inv-loop : tie.InvT-loop
-Inv-loop dst₀ t which n i₀ dst i = Taking (partOf which) t dst₀ n dst i
+Inv-loop dst₀ t which n i₀ dst i = Taking (entryOf which) t dst₀ n dst i
 
 abbrev μ-loop : tie.MeasureT-loop
 μ-loop dst₀ t which n i₀ dst i = n - i
@@ -22,7 +22,7 @@ loop-holds c = taking _ _ _ _ (c .before .count .ensures .0) (c .if1 .left)
 loop-again : tie.Need-loop-again Inv-loop μ-loop
 loop-again c =
     taking-corner _ _ _ _ _ _ (cornerOf (c .before .corner-at .result)) _ (c .before .before .before .loop .inv) (c .before .before .loop-test .taken)
-    (c .before .corner-at .ensures) (c .part-of .ensures)
+    (c .before .corner-at .ensures) (c .entry-of .ensures)
 
 same-length : tie.Need-same-length Inv-loop μ-loop
 same-length c = c .before .loop .inv .fill .long

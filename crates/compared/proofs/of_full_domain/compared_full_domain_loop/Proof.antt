@@ -1,7 +1,7 @@
 use mathlib.Core.Path.{sym}
 use borrow.Author.Needs.{needs}
-use Rattle.compared.proofs.of_whole.compared_full_domain_loop.Statement.{statement}
-use Rattle.compared.proofs.of_whole.compared_full_domain_loop.Tie as tie
+use Rattle.compared.proofs.of_full_domain.compared_full_domain_loop.Statement.{statement}
+use Rattle.compared.proofs.of_full_domain.compared_full_domain_loop.Tie as tie
 
 returns : tie.Need-returns
 returns c =

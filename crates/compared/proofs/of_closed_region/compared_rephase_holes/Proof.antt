@@ -1,7 +1,7 @@
 use mathlib.Core.Path.{sym}
 use borrow.Author.Needs.{needs}
-use Rattle.compared.proofs.of_regions.compared_rephase_holes.Statement.{statement}
-use Rattle.compared.proofs.of_regions.compared_rephase_holes.Tie as tie
+use Rattle.compared.proofs.of_closed_region.compared_rephase_holes.Statement.{statement}
+use Rattle.compared.proofs.of_closed_region.compared_rephase_holes.Tie as tie
 
 returns : tie.Need-returns
 returns c =

@@ -1,7 +1,7 @@
 use Rattle.full_domain.proofs.boundary.Sides.{laid}
 use borrow.Author.Needs.{needs}
-use Rattle.full_domain.proofs.boundary.lay_rungs.Statement.{statement}
-use Rattle.full_domain.proofs.boundary.lay_rungs.Tie as tie
+use Rattle.full_domain.proofs.boundary.write_rungs.Statement.{statement}
+use Rattle.full_domain.proofs.boundary.write_rungs.Tie as tie
 
 returns : tie.Need-returns
 returns c =
@@ -9,6 +9,6 @@ returns c =
     let stepped = written .before .before in
     laid _ _ _ _ _ (stepped .before .range-of .ensures) (stepped .steps .ensures) _ _ (written .merge-even .ensures .0)
 
-pub lay-rungs-spec : {M : Type 1} → statement M
-lay-rungs-spec =
+pub write-rungs-spec : {M : Type 1} → statement M
+write-rungs-spec =
     tie.close (tie.spec (λ c κs. search needs) (λ c κs. search needs) (λ c κs. search needs) (λ c. search needs) returns)

@@ -1,4 +1,4 @@
--- The refusals 8 to 11 of a face record are those of its loops and of their wraps.
+-- The refusals 8 to 11 of a face record, loop by loop.
 use Prim.Native.Nat.{ℕ, zero, suc}
 use mathlib.Core.Path.{_≡_, refl, sym, ap, _∙_}
 use mathlib.Core.Bool.{Bool, true, false, cond, not, _&&_}
@@ -12,13 +12,11 @@ use Rattle.tables.specs.Corners.{Corners, positions}
 use Rattle.bands.specs.Given.{Measured, wraps}
 use Rattle.lists.specs.Elements.{only}
 use Rattle.records.specs.Bytes.{_=?_, _<?_}
-use Rattle.records.specs.Face.{kind, loops}
+use Rattle.records.specs.Face.{loops}
 use Rattle.records.specs.Refusals.{nowhere, when, firstWhere}
-use Rattle.call.specs.Face.{loopsIn, measuredIn, isWrapping, wrapping}
-use Rattle.call.specs.Later.{loopIn, openRing, oneRing, manyRings, openSurface}
+use Rattle.call.specs.Face.{loopsIn, measuredIn, wrapsIn, isWrapping, wrapping}
+use Rattle.call.specs.Later.{wrapsAt, openAt, openAmong, wrappingOf, oneAmong, manyAmong, openRing, oneRing, manyRings}
 use Rattle.call.proofs.Loops.{loops-many, measured-many}
-use Rattle.measuring.specs.Refusals.{wrapsAt, openAt, openAmong, wrappingOf, oneAmong, manyAmong, openKind}
-use Rattle.measuring.specs.Loops.{wrapsIn}
 
 -- ---- lists
 
@@ -43,6 +41,13 @@ only-mapped f test (a ∷ l) = by-test (test (f a)) (only-mapped f test l)
 abbrev pub none : Measured Vec3
 none = record { corners = []; wrap = pos 0 }
 
+-- loop k
+unfoldable pub loopIn : List ℕ → ℕ → Measured Vec3
+loopIn s k = getD (measuredIn s) k none
+
+abbrev pub isOpen : Measured Vec3 → Bool
+isOpen m = not (endsMeet same (positions (m .corners)))
+
 module _ (s : List ℕ) where
   pub wrap-in : (k : ℕ) → getD (wrapsIn s) k (pos 0) ≡ loopIn s k .wrap
   unfolding loopIn
@@ -61,12 +66,9 @@ module _ (s : List ℕ) where
   unfolding loopIn
   corners-in k = sym (getD-mapped (λ (m : Measured Vec3). m .corners) (measuredIn s) k none) ∙ ap (λ (l : List (Corners Vec3)). getD l k []) unmarked
 
-  pub open-ring-in : (ls : List (Corners Vec3)) → ls ≡ loopsIn s → openAmong ls (wrapsIn s) ≡ openRing s
-  unfolding openAmong openAt openRing
-  open-ring-in ls h =
-      let as-many : length ls ≡ loops s = ap length h ∙ loops-many s in
-      let corners : (k : ℕ) → getD ls k [] ≡ loopIn s k .corners = λ k. ap (λ (l : List (Corners Vec3)). getD l k []) h ∙ sym (corners-in k) in
-      λ i. firstWhere (as-many i) (λ k. wraps-in k i && not (endsMeet same (positions (corners k i))))
+  pub open-ring-is : openRing s ≡ firstWhere (loops s) (λ k. isWrapping (loopIn s k) && isOpen (loopIn s k))
+  unfolding openRing openAmong openAt
+  open-ring-is = λ i. firstWhere (loops-many s i) (λ k. wraps-in k i && not (endsMeet same (positions (sym (corners-in k) i))))
 
   as-many-wraps : length (wrapsIn s) ≡ loops s
   as-many-wraps = length-map (measuredIn s) (λ (m : Measured Vec3). m .wrap) ∙ measured-many s
@@ -75,14 +77,10 @@ module _ (s : List ℕ) where
   unfolding wrappingOf wrapping
   wrapping-in = only-mapped (λ (m : Measured Vec3). m .wrap) wraps (measuredIn s)
 
-  pub one-ring-in : oneAmong (wrapsIn s) ≡ oneRing s
-  unfolding oneAmong oneRing
-  one-ring-in = λ i. cond (wrapping-in i =? 1) (firstWhere (as-many-wraps i) (λ k. wraps-in k i)) nowhere
+  pub one-ring-is : oneRing s ≡ cond (wrapping s =? 1) (firstWhere (loops s) (λ k. isWrapping (loopIn s k))) nowhere
+  unfolding oneRing oneAmong
+  one-ring-is = λ i. cond (wrapping-in i =? 1) (firstWhere (as-many-wraps i) (λ k. wraps-in k i)) nowhere
 
-  pub many-rings-in : manyAmong (wrapsIn s) ≡ manyRings s
-  unfolding manyAmong manyRings
-  many-rings-in = λ i. when (2 <? wrapping-in i) (wrapping-in i)
-
-  pub open-surface-in : openKind (kind s) (loops s) ≡ openSurface s
-  unfolding openKind openSurface
-  open-surface-in = refl
+  pub many-rings-is : manyRings s ≡ when (2 <? wrapping s) (wrapping s)
+  unfolding manyRings manyAmong
+  many-rings-is = λ i. when (2 <? wrapping-in i) (wrapping-in i)
