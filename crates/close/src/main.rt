@@ -1,5 +1,7 @@
 // Closes one face: reads its record from standard input, and writes its result record or six bytes
 // to standard output.
+#![tactic(auto)]
+
 ghost use Rattle.std.specs.Prelude.{◌≡◌, List, ℕ, ◌≤◌, length, take};
 ghost use Rattle.records.specs.Call.{output};
 ghost use Rattle.records.specs.Limits.{version1};
@@ -20,7 +22,7 @@ const LENT: usize = 61614;
 // says that signals do.
 const TRIES: u32 = 1000;
 
-#[derive(Drop)]
+#[derive(Clone, Copy)]
 enum Input {
     // So many bytes are there.
     Length(usize),

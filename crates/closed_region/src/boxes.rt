@@ -1,5 +1,5 @@
 // A box in u and v, by its four ends.
-#[derive(Drop)]
+#[derive(Clone, Copy)]
 pub struct Bounds {
     pub ulo: f64,
     pub uhi: f64,

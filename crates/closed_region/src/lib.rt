@@ -1,5 +1,7 @@
 // The region of a face whose loops all close: which loop is the outer one, and the holes moved onto
 // its branch. Slices of any length.
+#![tactic(auto)]
+
 pub mod box_table;
 pub mod boxes;
 pub mod enclosing;

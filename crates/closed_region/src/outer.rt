@@ -10,7 +10,7 @@ use numbers::order::{abs, max, min};
 // the number of those that none can. Within a slack that is not below 0 none encloses a box that does
 // not enclose even itself: an end of it is a NaN, or the slack is infinite and a lower end is -inf or
 // an upper one +inf.
-#[derive(Drop)]
+#[derive(Clone, Copy)]
 pub struct Outermost {
     pub ends: Bounds,
     pub unenclosable: usize,

@@ -5,7 +5,7 @@ ghost use Rattle.numbers.specs.Constants.{plus_zero};
 
 // Where the holes go: the middle of the outer loop, and the periods. The period of an open direction
 // is 0.0.
-#[derive(Drop)]
+#[derive(Clone, Copy)]
 pub struct Branch {
     pub umid: f64,
     pub vmid: f64,

@@ -1,4 +1,6 @@
 // The call: a face record in, a result record or a refusal out.
+#![tactic(auto)]
+
 ghost use Rattle.std.specs.Prelude.{◌≡◌, length};
 ghost use Rattle.records.specs.Call.{lent_after};
 ghost use Rattle.call.specs.Demands.{Demand1, BandDemand, WholeDemand};
@@ -14,7 +16,7 @@ use tables::slices::shorter;
 
 pub mod entry;
 
-#[derive(Drop)]
+#[derive(Clone, Copy)]
 pub enum Answer {
     // The length of the result record.
     Closed(usize),

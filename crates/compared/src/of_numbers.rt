@@ -9,7 +9,7 @@ ghost use Rattle.numbers.specs.Frames as Frames;
 ghost use Rattle.compared.specs.Points.{vec_of, point_of, frame_of, placement_of};
 
 #[repr(C)]
-#[derive(Drop)]
+#[derive(Clone, Copy)]
 pub struct Point {
     pub x: f64,
     pub y: f64,
@@ -17,7 +17,7 @@ pub struct Point {
 }
 
 #[repr(C)]
-#[derive(Drop)]
+#[derive(Clone, Copy)]
 pub struct Placement {
     pub origin: Point,
     pub axis: Point,

@@ -13,7 +13,7 @@ use records::read::Read;
 
 // How many values or bytes there are: `done` is 0 where something lent was too short, else 1.
 #[repr(C)]
-#[derive(Drop)]
+#[derive(Clone, Copy)]
 pub struct Counted {
     pub done: usize,
     pub number: usize,

@@ -11,7 +11,7 @@ use results::{Path, Size, Written};
 
 // What a record takes: `holds` is 0 where a record cannot hold the counts, else 1.
 #[repr(C)]
-#[derive(Drop)]
+#[derive(Clone, Copy)]
 pub struct Room {
     pub holds: usize,
     pub corners: usize,

@@ -16,7 +16,7 @@ use surfaces::surface::{Domain, Period, Surface};
 
 // A domain: its ends, and its periods or 0.
 #[repr(C)]
-#[derive(Drop)]
+#[derive(Clone, Copy)]
 pub struct DomainEnds {
     pub ulo: f64,
     pub uhi: f64,

@@ -27,7 +27,7 @@ use results::Path;
 use surfaces::surface::Surface;
 use tables::slices::at;
 
-#[derive(Drop)]
+#[derive(Clone, Copy)]
 pub enum Filled {
     // The path, and how many loops the result has.
     Face { path: Path, loops: usize },

@@ -1,5 +1,7 @@
 // A face closed into lent tables, by each of the three paths: filling is apart from writing, so that
 // a result exists outside bytes. The steps here are those of `face`.
+#![tactic(auto)]
+
 ghost use Rattle.std.specs.Prelude.{◌≡◌, List, map, ℕ, ◌<◌, ◌+◌, ◌-◌, ◌*◌, ◌≤◌, min, set, replicate, length};
 ghost use Rattle.lists.specs.Pieces.{pieces};
 ghost use Rattle.lists.specs.Placed.{placed};

@@ -9,7 +9,7 @@ ghost use Rattle.filling.specs.Stages.{verdict_of};
 use records::check::{Checked, check};
 use records::limits::version1;
 
-#[derive(Drop)]
+#[derive(Clone, Copy)]
 pub enum Verdict {
     Passes,
     Refuses { number: u8, place: usize },

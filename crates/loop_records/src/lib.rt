@@ -1,6 +1,8 @@
 // The loops of a face as a lent list of records. `measure::measure_loop` and `ring::take_ring` take
 // the list, `measure::with_loop` and `ring::lent_ring` make it and lend it: their proofs are walks by
 // hand. All others have the array by value.
+#![tactic(auto)]
+
 ghost use Rattle.std.specs.Prelude.{◌≡◌, map, take};
 ghost use Rattle.lists.specs.Placed.{placed};
 ghost use Rattle.loop_records.specs.Record.{no_loop};
@@ -10,7 +12,7 @@ use tables::slices::shorter;
 pub mod measure;
 pub mod ring;
 
-#[derive(Drop)]
+#[derive(Clone, Copy)]
 pub struct LoopRecord {
     pub start: usize,
     pub count: usize,

@@ -4,7 +4,7 @@ ghost use Rattle.std.specs.Float.Ieee as Ieee;
 ghost use Rattle.std.specs.Float.{binary64};
 ghost use Rattle.numbers.specs.Bits.{real_of};
 
-#[derive(Drop)]
+#[derive(Clone, Copy)]
 pub enum Real {
     Value(f64),
     NotANumber,

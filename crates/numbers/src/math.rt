@@ -9,13 +9,13 @@ use super::order::abs;
 use super::root::sqrt;
 use super::trig::sin_cos;
 
-#[derive(Drop)]
+#[derive(Clone, Copy)]
 pub struct Vec2 {
     pub u: f64,
     pub v: f64,
 }
 
-#[derive(Drop)]
+#[derive(Clone, Copy)]
 pub struct Vec3 {
     pub x: f64,
     pub y: f64,
@@ -24,20 +24,20 @@ pub struct Vec3 {
 
 // What normalizing finds: a vector of length one, or none where the length is too small, too large
 // or a NaN.
-#[derive(Drop)]
+#[derive(Clone, Copy)]
 pub enum Direction {
     Unit(Vec3),
     Short,
 }
 
-#[derive(Drop)]
+#[derive(Clone, Copy)]
 pub struct Frame {
     pub origin: Vec3,
     pub axis: Vec3,
     pub reference: Vec3,
 }
 
-#[derive(Drop)]
+#[derive(Clone, Copy)]
 pub struct Interval {
     pub lo: f64,
     pub hi: f64,

@@ -7,7 +7,7 @@ ghost use Rattle.numbers.specs.Root.{Rooted, Digit, Padded};
 ghost use Rattle.numbers.specs.Sqrt.{root_float, sqrt_of};
 
 // A whole root q, cut, and what is left: the number is q * q + r.
-#[derive(Drop)]
+#[derive(Clone, Copy)]
 struct Root {
     q: u64,
     r: u64,

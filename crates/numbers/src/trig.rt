@@ -7,7 +7,7 @@ ghost use Rattle.numbers.specs.Trig.{divisor_of, series_from, quarter_of, reduce
 
 use super::rounding::round;
 
-#[derive(Drop)]
+#[derive(Clone, Copy)]
 pub struct SinCos {
     pub sin: f64,
     pub cos: f64,

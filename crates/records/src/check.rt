@@ -12,14 +12,14 @@ use super::limits::Limits;
 use super::{HEAD_REALS, HEADER_SIZE, MIN_POINTS, count_at, loops, points, real_at, wide};
 
 // Where a condition of the table holds.
-#[derive(Drop)]
+#[derive(Clone, Copy)]
 pub enum Place {
     Nowhere,
     At(usize),
 }
 
 // What the check says; each refusal with its place.
-#[derive(Drop)]
+#[derive(Clone, Copy)]
 pub enum Checked {
     Passes,
     WrongHeader(usize),

@@ -1,4 +1,6 @@
 // The face record as bytes: its limits, its check, and reading it.
+#![tactic(auto)]
+
 ghost use Rattle.std.specs.Prelude.{◌≡◌, ◌+◌, ◌*◌, ◌^◌, ◌≤◌, ◌<◌, length, get_or};
 ghost use Rattle.records.specs.Bytes.{number_at, real_at};
 ghost use Rattle.records.specs.Face.{header_size, loops, count, points};

@@ -2,7 +2,7 @@
 ghost use Rattle.std.specs.Prelude.{◌≡◌};
 ghost use Rattle.records.specs.Limits.{version1};
 
-#[derive(Drop)]
+#[derive(Clone, Copy)]
 pub struct Limits {
     pub loops: usize,
     // Of all loops.

@@ -11,7 +11,7 @@ use numbers::math::Vec3;
 use tables::corners::{Corner, count, put_corner};
 
 // How many values were read, or that something lent was too short.
-#[derive(Drop)]
+#[derive(Clone, Copy)]
 pub enum Read {
     Count(usize),
     Refused,

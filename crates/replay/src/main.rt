@@ -1,5 +1,7 @@
 // Closes the stored faces that stand on standard input, and writes the answers to standard output.
 // README.md says what both hold.
+#![tactic(auto)]
+
 mod painted;
 
 ghost use Rattle.std.specs.Prelude.{◌≡◌, ◌∷◌, []};

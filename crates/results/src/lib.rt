@@ -1,6 +1,8 @@
 // Writing a result record into lent bytes: sizes (path, corner counts), areas, and the corners in a
 // table, all of any length. The record's length is known from its sizes before the first byte is
 // written; where something lent is too short nothing is written.
+#![tactic(auto)]
+
 ghost use Rattle.std.specs.Prelude.{◌≡◌, ◌∷◌, [], ◌+◌, ◌-◌, ◌*◌, ◌≤◌, length, take};
 ghost use Rattle.std.proofs.lemmas.List.Edits.{sets};
 ghost use Rattle.records.specs.Bytes.{bytes, u16, real, row};
@@ -12,7 +14,7 @@ ghost use Rattle.results.specs.Written.{path_of, columns_of, table_result, size_
 use numbers::bits;
 use tables::corners::count;
 
-#[derive(Drop)]
+#[derive(Clone, Copy)]
 pub enum Path {
     Closed,
     Wrapped,
@@ -20,13 +22,13 @@ pub enum Path {
 }
 
 // What a record with some corner counts takes, or that a record cannot hold them.
-#[derive(Drop)]
+#[derive(Clone, Copy)]
 pub enum Size {
     Takes { corners: usize, length: usize },
     TooLarge,
 }
 
-#[derive(Drop)]
+#[derive(Clone, Copy)]
 pub enum Written {
     Length(usize),
     Refused,

@@ -13,7 +13,7 @@ use tables::moves::Move;
 use tables::slices::shorter;
 
 // How far the holes reach so far, the widest gap before them, and its middle.
-#[derive(Drop)]
+#[derive(Clone, Copy)]
 pub struct Gap {
     pub reach: f64,
     pub width: f64,

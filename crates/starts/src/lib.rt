@@ -1,5 +1,7 @@
 // Where two rings of a band begin: the search for a start, and the rings' u put there. What a corner
 // carries besides its u is turned at the same points by `begin_ring_at` and `align_at`, and stays.
+#![tactic(auto)]
+
 ghost use Rattle.std.specs.Prelude.{◌≡◌};
 ghost use Rattle.tables.specs.Corners.{us};
 ghost use Rattle.rings.specs.Starts.{bare, later_for};

@@ -17,7 +17,7 @@ use tables::moves::Move;
 
 // The chosen start, how many were tried, and whether one served. Where none did, the start is the
 // fallback's.
-#[derive(Drop)]
+#[derive(Clone, Copy)]
 pub struct Search {
     pub start: usize,
     pub tried: usize,

@@ -18,7 +18,7 @@ use surfaces::surface::Surface;
 use tables::corners::{count, put_corner};
 use tables::slices::shorter;
 
-#[derive(Drop)]
+#[derive(Clone, Copy)]
 pub enum Closing {
     // How many corners are left, and the area they enclose in u and v.
     Closed { count: usize, area: f64 },

@@ -1,4 +1,6 @@
 // The strip between two rings of a band, in a corner table: 01, "Bands".
+#![tactic(auto)]
+
 pub mod closing;
 pub mod corners;
 pub mod count;

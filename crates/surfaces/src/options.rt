@@ -8,7 +8,7 @@ use numbers::rounding::{as_usize, ceil};
 use numbers::trig::acos;
 
 // How far a chord may leave its arc, how far a step may turn, and how few segments an edge may have.
-#[derive(Drop)]
+#[derive(Clone, Copy)]
 pub struct Resolved {
     pub sag: f64,
     pub angle: f64,

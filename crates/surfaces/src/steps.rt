@@ -7,7 +7,7 @@ use super::surface::Surface;
 use numbers::order::{abs, max};
 use numbers::trig::cos;
 
-#[derive(Drop)]
+#[derive(Clone, Copy)]
 pub enum Axis {
     U,
     V,

@@ -16,7 +16,7 @@ const FRAC_PI_2: f64 = 1.5707963267948966;
 const UNBOUNDED: f64 = 1e12;
 
 // A kind with its own sizes. The frame stands beside it.
-#[derive(Drop)]
+#[derive(Clone, Copy)]
 pub enum Surface {
     Plane,
     Cylinder {
@@ -36,7 +36,7 @@ pub enum Surface {
 }
 
 // After how much a parameter gives the same points again.
-#[derive(Drop)]
+#[derive(Clone, Copy)]
 pub enum Period {
     Every(f64),
     None,
@@ -54,7 +54,7 @@ impl Period {
     }
 }
 
-#[derive(Drop)]
+#[derive(Clone, Copy)]
 pub struct Domain {
     pub u: Interval,
     pub v: Interval,

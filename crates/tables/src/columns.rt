@@ -10,7 +10,7 @@ use super::corners::{Corner, corner_at, count, put_corner};
 use super::slices::shorter;
 use numbers::math::Vec3;
 
-#[derive(Drop)]
+#[derive(Clone, Copy)]
 pub enum Column {
     ParamU,
     ParamV,

@@ -6,7 +6,7 @@ ghost use Rattle.tables.specs.Rows.{rows, corner_of, none};
 
 use numbers::math::Vec3;
 
-#[derive(Drop)]
+#[derive(Clone, Copy)]
 pub struct Corner {
     pub u: f64,
     pub v: f64,

@@ -9,7 +9,7 @@ ghost use Rattle.tables.specs.Rows.{rows, none};
 use super::corners::{Corner, corner_at, count, put_corner, put_u, u_at};
 
 // A step along u or v, or none: what comes round a ring has its u raised, and all else stays.
-#[derive(Drop)]
+#[derive(Clone, Copy)]
 pub enum Move {
     Stay,
     Up(f64),

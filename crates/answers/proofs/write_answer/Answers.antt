@@ -1,0 +1,24 @@
+use lib.ListN.{length}
+use borrow.Author.Rules.{rules}
+use Rattle.call.specs.Judge.{judge}
+use Rattle.answers.proofs.Front.{found_in, closed-written, refused_written}
+use Rattle.answers.proofs.Small.{four-bytes_hold}
+use Rattle.answers.proofs.write_answer.Goals as goal
+
+pub returns-in-Closed : goal.returns-in-Closed
+returns-in-Closed c = let given = c.args in
+    let old = given.out.now in
+    let o = judge (length old) given.face.now in
+    let call = c.close_face-answer.ensures in
+    let told = c.in-Closed.is in
+    let wrote = closed-written o call.0 old call.1.0 told (search rules) in
+    (wrote.0, (wrote.1, found_in o old wrote.1 (four-bytes_hold o given.face.now old call.0 call.1.1.0)))
+
+pub returns-in-Refused : goal.returns-in-Refused
+returns-in-Refused c = let given = c.args in
+    let old = given.out.now in
+    let o = judge (length old) given.face.now in
+    let call = c.close_face-answer.ensures in
+    let told = c.in-Refused.is in
+    let wrote = refused_written o call.0 old call.1.0 told c.write_refusal.ensures in
+    (wrote.0, (wrote.1, found_in o old wrote.1 (four-bytes_hold o given.face.now old call.0 call.1.1.0)))

@@ -1,0 +1,10 @@
+use borrow.Author.Rules.{rules}
+use Rattle.answers.proofs.Front.{six_short, six_written}
+use Rattle.answers.proofs.write_refusal.Goals as goal
+
+pub returns-then-out-lt6 : goal.returns-then-out-lt6
+returns-then-out-lt6 c = six_short c.args.out.now _ _ c.if-out-lt6.true
+
+pub returns : goal.returns
+returns c = let given = c.args in
+    six_written given.out.now given.number given.place c.if-out-lt6.false c.put_refusal.ensures

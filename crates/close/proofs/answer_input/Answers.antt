@@ -1,0 +1,21 @@
+use mathlib.Core.Path.{◌≡◌, sym}
+use lib.ListN.{length, take}
+use lib.Seq.{length-take-le}
+use borrow.Author.Rules.{rules}
+use Rattle.records.specs.Limits.{version1}
+use Rattle.close.proofs.Whole.{within, of_all}
+use Rattle.close.proofs.answer_input.Goals as goal
+
+pub slice_bounds-write_answer-end : goal.slice_bounds-write_answer-end
+slice_bounds-write_answer-end c = sym (length-take-le _ _ c.requires)
+
+pub returns : goal.returns
+returns c = let given = c.args in
+    let read = take given.n given.face.now in
+    let old = given.out.now in
+    let answered = c.write_answer.ensures in
+    let left = answered.1.0 in
+    let found = answered.1.1 in
+    let full : length old ≡ version1.result = search rules in
+    let enough : length given.face.now ≡ 20622 = search rules in
+    (within read old full answered.0 left, λ input first. of_all read old full answered.0 left input enough first found)

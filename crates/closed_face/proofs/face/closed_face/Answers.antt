@@ -1,0 +1,13 @@
+use Rattle.closed_face.proofs.Result.{steps}
+use borrow.Author.Rules.{rules}
+use Rattle.closed_face.proofs.face.closed_face.Goals as goal
+
+pub returns : goal.returns
+returns c = steps _ _ _ _ _ _ _ _
+    c.closed_region-outer.ensures.1
+    _ _ _ _ _ _ _ _ _
+    c.closed_region-outer.ensures.0
+    c.rephase_holes.ensures
+    c.loop_first.ensures
+    c.count_first.ensures c.part.ensures
+    c.part_first.ensures

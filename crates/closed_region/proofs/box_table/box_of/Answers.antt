@@ -1,0 +1,15 @@
+use borrow.Author.Rules.{rules}
+use Prim.Native.Nat.{◌-◌}
+use native.Mathlib.Omega.{arith}
+use Rattle.closed_region.proofs.BoxTable.{Growing, growing, growing_turn, growing_end}
+use Rattle.closed_region.proofs.box_table.box_of.Goals as goal
+
+pub loop-i-init : goal.loop-i-init
+loop-i-init c = growing _ _ _ c.count-n.ensures.0 c.empty_box-b.ensures
+
+pub loop-i-preserved : goal.loop-i-preserved
+loop-i-preserved c = growing_turn _ _ _ _ _ _ _ c.loop-i.invariant c.loop-i-test.true c.u_at-u.ensures
+    c.v_at-v.ensures c.hull-b.ensures
+
+pub returns : goal.returns
+returns c = growing_end _ _ _ _ c.loop-i.invariant c.loop-i-test.false

@@ -1,0 +1,7 @@
+use Rattle.closed_region.specs.Outer.{outer_of}
+use borrow.Author.Rules.{rules}
+use Rattle.closed_region.proofs.enclosing.outer_loop.Goals as goal
+
+pub returns : goal.returns
+unfolding outer_of
+returns c = rw (← c.last_largest.ensures) c.enclosing_one.ensures

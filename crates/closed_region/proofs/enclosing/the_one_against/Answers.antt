@@ -1,0 +1,26 @@
+use Prim.Native.Nat.{◌-◌}
+use native.Mathlib.Omega.{arith}
+use borrow.Author.Rules.{rules}
+use lib.ListN.{length}
+use Rattle.closed_region.specs.Loops.{boxes_in}
+use Rattle.closed_region.specs.ByOutermost.{encloses_outermost_at}
+use Rattle.closed_region.proofs.outer.Laws as laws
+use Rattle.closed_region.proofs.enclosing.the_one_against.Goals as goal
+
+pub loop-i-init : goal.loop-i-init
+loop-i-init c = laws.seeking _ _ _ c.box_count-n.ensures
+
+pub returns-then-found-n : goal.returns-then-found-n
+returns-then-found-n c = search (laws.seeking_two, laws.held_at, rules)
+
+pub loop-i-preserved-then-encloses_outermost : goal.loop-i-preserved-then-encloses_outermost
+loop-i-preserved-then-encloses_outermost c = search (laws.seeking_one, laws.held_at, rules)
+
+pub loop-i-preserved : goal.loop-i-preserved
+loop-i-preserved c = search (laws.seeking_on, laws.held_at, rules)
+
+pub returns-then-found-n-2 : goal.returns-then-found-n-2
+returns-then-found-n-2 c = laws.found_one _ _ _ _ _ _ c.loop-i.invariant c.loop-i-test.false c.if-found-n-2.true
+
+pub returns-else-found-n-2 : goal.returns-else-found-n-2
+returns-else-found-n-2 c = laws.found_none _ _ _ _ _ _ c.loop-i.invariant c.loop-i-test.false c.if-found-n-2.false

@@ -1,0 +1,9 @@
+use Rattle.closed_region.proofs.MovedHoles.{shift_answer, open_answer}
+use borrow.Author.Rules.{rules}
+use Rattle.closed_region.proofs.holes.hole_shift.Goals as goal
+
+pub returns-then-period : goal.returns-then-period
+returns-then-period c = shift_answer _ _ _ _ c.well_formed.1.1.0.1 c.well_formed.1.0.1 c.if-period.true c.round.ensures
+
+pub returns : goal.returns
+returns c = open_answer _ _ _ c.if-period.false

@@ -1,0 +1,12 @@
+use Rattle.closed_region.proofs.MovedHoles.{loop_stays, loop_moves}
+use borrow.Author.Rules.{rules}
+use Rattle.closed_region.proofs.holes.rephase_loop.Goals as goal
+
+pub returns-then-k-outer : goal.returns-then-k-outer
+returns-then-k-outer c = loop_stays _ _ _ _ _ _ _ c.if-k-outer.true
+
+pub returns : goal.returns
+returns c = loop_moves _ _ _ _ c.args.areas.now _ _
+    c.if-k-outer.false _ _ _ _
+    c.at.ensures c.rephase_part-area.ensures
+    c.put.ensures

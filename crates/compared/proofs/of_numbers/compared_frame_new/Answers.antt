@@ -1,0 +1,5 @@
+use borrow.Author.Rules.{rules}
+use Rattle.compared.proofs.of_numbers.compared_frame_new.Goals as goal
+
+pub returns : goal.returns
+returns c = cc

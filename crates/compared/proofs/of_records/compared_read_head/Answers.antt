@@ -1,0 +1,7 @@
+use mathlib.Core.Path.{ap, ◌∙◌}
+use Rattle.compared.specs.Records.{read_of}
+use borrow.Author.Rules.{rules}
+use Rattle.compared.proofs.of_records.compared_read_head.Goals as goal
+
+pub returns : goal.returns
+returns c = let read = c.read_head.ensures in (c.read_of.ensures ∙ ap read_of read.answer, read.is)

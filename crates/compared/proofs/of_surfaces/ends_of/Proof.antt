@@ -1,9 +1,0 @@
-use borrow.Author.Rules.{rules}
-use Rattle.compared.proofs.of_surfaces.ends_of.Statement.{statement}
-use Rattle.compared.proofs.of_surfaces.ends_of.Tie as tie
-
-returns : tie.Need-returns
-returns c = cc
-
-pub ends-of-spec : {M : Type 1} → statement M
-ends-of-spec = tie.close (tie.spec (λ c κs. search rules) (λ c κs. search rules) returns)

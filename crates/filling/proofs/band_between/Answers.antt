@@ -1,0 +1,20 @@
+use native.Mathlib.Omega.{arith}
+use Rattle.bands.specs.Columns.{setting_of}
+use Rattle.filling.proofs.Between.{between, still_short}
+use borrow.Author.Rules.{rules}
+use Rattle.filling.proofs.band_between.Goals as goal
+
+pub shape_of-first : goal.shape_of-first
+shape_of-first c = omega
+    (arith, c.first-1.given, c.first-2-1.given, c.first-3-1.given, c.first-4-1.given)
+
+pub shape_of-later : goal.shape_of-later
+shape_of-later c = omega
+    (arith, c.later-1.given, c.later-2-1.given, c.later-3-1.given, c.later-4-1.given)
+
+pub shape_of-holes : goal.shape_of-holes
+shape_of-holes c = omega
+    (arith, c.holes-1.given)
+
+pub returns : goal.returns
+returns c = λ few short. between (setting_of c.args.frame c.args.surface c.args.options c.args.period c.args.sense) c.args.counts.now c.args.first.now c.args.later.now c.args.holes.now _ _ _ _ _ _ _ c.args.first-falls c.args.later-falls _ _ _ c.lay_rings.ensures.0 c.lay_rings.ensures.1 c.reseam.ensures c.take_start.ensures.1.0 c.take_start.ensures.1.1 (omega arith) (omega arith) (still_short c.args.first.now _ c.args.later.now _ _ _ _ c.first-1.given c.first-2-1.given c.later-1.given c.later-2-1.given (omega arith)) _ _ _ _ _ _ c.goes_with-with1.ensures c.goes_with-with2.ensures (omega arith) (omega arith) (c.close_ordered.ensures.0 c.args.sense) (c.close_ordered.ensures.1.0 c.args.sense)

@@ -1,0 +1,34 @@
+use mathlib.Core.Path.{sym}
+use native.Mathlib.Omega.{arith}
+use lib.Seq.{length-take-le}
+use borrow.Author.Rules.{sfits_of}
+use Rattle.filling.proofs.Finding.{falls_held}
+use Rattle.filling.proofs.Taken.{a_inside, b_inside, ring-taken, falls-taken, counts-taken, holes-taken, band-taken, first_short, later_short}
+use borrow.Author.Rules.{rules}
+use Rattle.filling.proofs.band_of.Goals as goal
+
+pub slice_bounds-band_between-end : goal.slice_bounds-band_between-end
+slice_bounds-band_between-end c = sym
+    (length-take-le _ _ (let k = c.ring_reals-m.ensures in omega (arith, c.first-2-1.given)))
+
+pub slice_bounds-band_between-end-2 : goal.slice_bounds-band_between-end-2
+slice_bounds-band_between-end-2 c = sym
+    (length-take-le _ _ (let k = c.ring_reals-n.ensures in omega (arith, c.later-2-1.given)))
+
+pub slice_bounds-band_between-end-3 : goal.slice_bounds-band_between-end-3
+slice_bounds-band_between-end-3 c = sym
+    (length-take-le _ _ (let k = c.shorter-k.ensures in omega (arith, c.counts-2-1.given)))
+
+pub returns : goal.returns
+returns c = λ s f room.
+    let one = c.ring_of-one in
+    let other = c.ring_of-other in
+    band-taken _ _ _ _ _ _ _ _ _ _ f _ _ _ _ _ _
+    (ring-taken _ _ _ _ _ _ _ _ _ _ f _ (a_inside _ _ _ _ _ _ _ _ _ _ f) _ _ _ _ one.ensures.0 (omega arith) (first_short _ _ _ _ _ _ _ _ _ _ f) c.ring_reals-m.ensures one.ensures.1)
+    (ring-taken _ _ _ _ _ _ _ _ _ _ f _ (b_inside _ _ _ _ _ _ _ _ _ _ f) _ _ _ _ other.ensures.0 (omega arith) (later_short _ _ _ _ _ _ _ _ _ _ f) c.ring_reals-n.ensures other.ensures.1)
+    (falls-taken _ _ _ _ _ _ _ _ _ _ f _ (a_inside _ _ _ _ _ _ _ _ _ _ f) _ _ one.ensures.0
+    (falls_held _ one.result.travel (sfits_of c.struct_told-1.given.1.1.1.0.1) c.falls.ensures))
+    (falls-taken _ _ _ _ _ _ _ _ _ _ f _ (b_inside _ _ _ _ _ _ _ _ _ _ f) _ _ other.ensures.0
+    (falls_held _ other.result.travel (sfits_of c.struct_told-2-1.given.1.1.1.0.1) c.falls-2.ensures))
+    (counts-taken _ _ _ _ _ _ _ _ _ _ f _ _ _ _ (omega arith) c.count_holes.ensures c.shorter-k.ensures c.pick_counts.ensures)
+    (holes-taken _ _ _ _ _ _ _ _ _ _ f _ _ room c.pick_holes.ensures) _ _ _ _ _ c.u_period.ensures c.length-period.ensures c.band_between.ensures

@@ -1,0 +1,16 @@
+use mathlib.Core.Path.{refl, sym, ◌∙◌}
+use mathlib.Core.Bool.{true≢false}
+use Rattle.full_domain.proofs.boundary.Sides as laws
+use borrow.Author.Rules.{rules}
+use Rattle.full_domain.proofs.boundary.full_domain_count.Goals as goal
+
+pub returns-then-is_whole : goal.returns-then-is_whole
+returns-then-is_whole c = let along-v = c.side_count-then-is_whole.ensures in
+    let along-u = c.side_count.ensures in (
+      laws.count_whole _ _ _ _ _ c.is_whole.ensures c.if-is_whole.true along-u.0.0 along-v.0.0,
+      λ h. (_, _, refl, along-u.1, along-v.1),
+    )
+
+pub returns : goal.returns
+returns c = let whole = c.is_whole.ensures in
+    (laws.count_none _ _ _ whole c.if-is_whole.false, λ h. absurd (true≢false (sym h ∙ sym whole ∙ c.if-is_whole.false)))

@@ -1,0 +1,11 @@
+use Rattle.full_domain.specs.Boundary.{wrap_of}
+use borrow.Author.Rules.{rules}
+use Rattle.full_domain.proofs.boundary.wrap.Goals as goal
+
+pub returns-in-None : goal.returns-in-None
+unfolding wrap_of
+returns-in-None c = rw c.in-None.is
+
+pub returns-in-Every : goal.returns-in-Every
+unfolding wrap_of
+returns-in-Every c = rw (c.in-Every.is, c.wrap_end.ensures)

@@ -1,0 +1,12 @@
+use Prim.Native.Nat.{◌-◌}
+use lib.ListN.{length}
+use native.Mathlib.Omega.{arith}
+use Rattle.full_domain.proofs.WholeRows.{Putting, putting, putting_turn, putting_end}
+use borrow.Author.Rules.{rules}
+use Rattle.full_domain.proofs.table.put_side.Given as goal
+
+abbrev pub invariant-loop-i : goal.invariant-loop-i
+invariant-loop-i l = Putting l.surface l.frame l.axis l.fixed l.back l.rungs l.initial.t l.start l.t l.i
+
+abbrev pub decreases-loop-i : goal.decreases-loop-i
+decreases-loop-i l = length l.rungs - l.i

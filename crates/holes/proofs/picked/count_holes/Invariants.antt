@@ -1,0 +1,11 @@
+use borrow.Author.Rules.{rules}
+use Prim.Native.Nat.{◌-◌}
+use native.Mathlib.Omega.{arith}
+use Rattle.holes.proofs.picked.Laws.{Counting, counting, counting_ring, counting_hole, counting_end}
+use Rattle.holes.proofs.picked.count_holes.Given as goal
+
+abbrev pub invariant-loop-i : goal.invariant-loop-i
+invariant-loop-i l = Counting l.n l.a l.b l.k l.i
+
+abbrev pub decreases-loop-i : goal.decreases-loop-i
+decreases-loop-i l = l.n - l.i

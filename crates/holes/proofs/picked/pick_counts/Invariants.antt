@@ -1,0 +1,13 @@
+use borrow.Author.Rules.{rules}
+use Prim.Native.Nat.{◌-◌}
+use mathlib.Core.Path.{refl}
+use native.Mathlib.Omega.{arith}
+use lib.ListN.{length}
+use Rattle.holes.proofs.picked.Laws.{Picking, picking, picking_none, picking_ring, picking_hole, picking_room, picking_end}
+use Rattle.holes.proofs.picked.pick_counts.Given as goal
+
+abbrev pub invariant-loop-i : goal.invariant-loop-i
+invariant-loop-i l = Picking l.at l.src l.a l.b l.initial.dst l.dst l.k l.i
+
+abbrev pub decreases-loop-i : goal.decreases-loop-i
+decreases-loop-i l = length l.src - l.i

@@ -1,0 +1,36 @@
+use borrow.Author.Rules.{rules}
+use Prim.Native.Nat.{◌-◌, ◌*◌, ◌^◌, ◌<◌}
+use mathlib.Core.Path.{◌≡◌, refl, ◌∙◌}
+use native.Mathlib.Omega.{arith}
+use lib.ListN.{length}
+use Rattle.tables.specs.Rows.{rows}
+use Rattle.holes.proofs.rows.Laws.{Picking, picking, picking_none, picking_forth, picking_room, picking_turn, picking_end}
+use Rattle.holes.proofs.rows.pick_holes.Goals as goal
+
+pub returns-then-not-has_room : goal.returns-then-not-has_room
+returns-then-not-has_room c = picking_none _ _ _ _ _ _ _ _ _ c.count_rows.ensures.0 c.count.ensures.0 c.has_room.ensures
+    c.if-not-has_room.true
+
+pub loop-i-init : goal.loop-i-init
+loop-i-init c = (refl, (c.count-n.ensures.0, (c.count-n.ensures.1, picking _ _ _ _ _ _ _ _ _ c.count_rows.ensures.0 c.count.ensures.0 c.has_room.ensures c.if-not-has_room.false)))
+
+pub pick_one-requires : goal.pick_one-requires
+pick_one-requires c = picking_forth _ _ _ _ _ _ _ _ _ _ _ _ _ c.loop-i.invariant.1.1.1 c.loop-i-test.true
+    c.loop-i.invariant.1.0 c.piece_end-to.ensures c.is_ring-ring.ensures
+
+pub behind-here-requires : goal.behind-here-requires
+behind-here-requires c = picking_room _ _ _ _ _ _ _ _ _ _ _ _ _ c.loop-i.invariant.1.1.1
+    c.loop-i-test.true
+    c.loop-i.invariant.1.0 c.piece_end-to.ensures
+    c.is_ring-ring.ensures _ c.loop-i.invariant.1.1.0
+    c.count.ensures.0
+    c.count.ensures.1
+
+pub loop-i-preserved : goal.loop-i-preserved
+loop-i-preserved c = (c.out-1.given ∙ c.loop-i.invariant.0, (c.loop-i.invariant.1.0, (c.loop-i.invariant.1.1.0, picking_turn _ _ _ _ _ _ _ _ _ _ _ _ _ c.loop-i.invariant.1.1.1 c.loop-i-test.true c.loop-i.invariant.1.0 c.piece_end-to.ensures c.is_ring-ring.ensures _ _ c.pick_one.ensures c.behind-here.ensures)))
+
+pub shape_of-out : goal.shape_of-out
+shape_of-out c = c.loop-i.invariant.0
+
+pub returns : goal.returns
+returns c = picking_end _ _ _ _ _ _ _ _ _ _ c.loop-i.invariant.1.1.1 c.loop-i-test.false

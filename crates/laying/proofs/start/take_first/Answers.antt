@@ -1,0 +1,20 @@
+use native.Mathlib.Omega.{arith}
+use Rattle.tables.specs.Rows.{rows}
+use Rattle.laying.proofs.Starting.{first_taken}
+use borrow.Author.Rules.{rules}
+use Rattle.laying.proofs.start.take_first.Goals as goal
+
+pub shape_of-u : goal.shape_of-u
+shape_of-u c = omega
+    (arith, c.u-1.given, c.u-2-1.given)
+
+pub returns : goal.returns
+returns c = first_taken _ (rows c.args.first.now) _ c.args.u.now c.args.v.now c.args.x.now c.args.y.now
+    c.args.z.now _ _ _ _ _ _ _ _ _ _ c.requires
+    c.columns_into.ensures
+    c.rows_from.ensures _
+    c.begin_ring_at.ensures
+    c.begin_ring_at-2.ensures
+    c.begin_ring_at-3.ensures
+    c.begin_ring_at-4.ensures
+    c.begin_ring_at-5.ensures

@@ -1,0 +1,14 @@
+use Prim.Native.Nat.{◌-◌}
+use mathlib.Core.Path.{refl}
+use native.Mathlib.Omega.{arith}
+use lib.Ieee.{nan}
+use borrow.Author.Rules.{rules}
+use Rattle.loop_records.specs.declared.LoopRecord.{LoopRecord}
+use Rattle.loop_records.proofs.Columns.{Reading, no_reading, reading, reading_turn, reading_end}
+use Rattle.loop_records.proofs.areas_of.Given as goal
+
+abbrev pub invariant-loop-i : goal.invariant-loop-i
+invariant-loop-i l = Reading (λ (l : LoopRecord). l.area) l.loops l.n l.initial.areas l.areas l.k l.i
+
+abbrev pub decreases-loop-i : goal.decreases-loop-i
+decreases-loop-i l = l.k - l.i

@@ -1,0 +1,20 @@
+use Prim.Native.Nat.{◌-◌}
+use mathlib.Core.Path.{sym, ◌∙◌}
+use lib.ListN.{length}
+use native.Mathlib.Omega.{arith}
+use borrow.Author.Rules.{rules}
+use Rattle.records.proofs.Search.{seek_start, seek_turn, seek_found, seek_end}
+use Rattle.measuring.proofs.Searches.{Finding}
+use Rattle.measuring.proofs.refusals.first_wrapping.Goals as goal
+
+pub loop-k-init : goal.loop-k-init
+loop-k-init c = seek_start
+
+pub returns-then-wraps_at : goal.returns-then-wraps_at
+returns-then-wraps_at c = seek_found c.loop-k.invariant c.loop-k-test.true (sym c.wraps_at.ensures ∙ c.if-wraps_at.true)
+
+pub loop-k-preserved : goal.loop-k-preserved
+loop-k-preserved c = seek_turn c.loop-k.invariant c.loop-k-test.true (sym c.wraps_at.ensures ∙ c.if-wraps_at.false)
+
+pub returns : goal.returns
+returns c = seek_end c.loop-k.invariant c.loop-k-test.false

@@ -1,0 +1,10 @@
+use native.Mathlib.Omega.{arith}
+use borrow.Author.Rules.{rules}
+use Rattle.measuring.proofs.Searches.{Falling, falling, falling_found, falling_turn, falling_end}
+use Rattle.measuring.proofs.refusals.last_wrapping.Given as goal
+
+abbrev pub invariant-loop-k : goal.invariant-loop-k
+invariant-loop-k l = Falling l.wraps l.k
+
+abbrev pub decreases-loop-k : goal.decreases-loop-k
+decreases-loop-k l = l.k

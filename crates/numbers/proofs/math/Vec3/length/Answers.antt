@@ -1,0 +1,7 @@
+use Rattle.numbers.specs.Vectors.{length_of}
+use Rattle.std.proofs.Common.{rules}
+use Rattle.numbers.proofs.math.Vec3.length.Goals as goal
+
+pub returns : goal.returns
+unfolding length_of
+returns c = cc

@@ -1,0 +1,12 @@
+use Rattle.numbers.proofs.rounding.Cast as laws
+use Rattle.std.proofs.Common.{rules}
+use Rattle.numbers.proofs.rounding.as_usize.Goals as goal
+
+pub truncating_f64_to_u64-requires : goal.truncating_f64_to_u64-requires
+truncating_f64_to_u64-requires c = laws.cast_in _ c.if-x.true c.if-x-2.true
+
+pub returns-then-x : goal.returns-then-x
+returns-then-x c = laws.cast_above _ c.if-x.true c.if-x-2.false
+
+pub returns : goal.returns
+returns c = laws.cast_below _ c.if-x.false

@@ -1,0 +1,13 @@
+use native.Mathlib.Omega.{arith}
+use mathlib.Core.Path.{◌≡◌}
+use Prim.Native.Nat.{◌-◌, ◌<◌}
+use Rattle.records.specs.Face.{loops}
+use Rattle.records.proofs.Counting as counting
+use borrow.Author.Rules.{rules}
+use Rattle.records.proofs.check.too_many_points.Given as goal
+
+abbrev pub invariant-loop-k : goal.invariant-loop-k
+invariant-loop-k l = counting.Totalling l.limits l.face l.total l.k × ((l.l ≡ loops l.face) × (l.l < 256))
+
+abbrev pub decreases-loop-k : goal.decreases-loop-k
+decreases-loop-k l = l.l - l.k

@@ -1,0 +1,5 @@
+use borrow.Author.Rules.{rules}
+use Rattle.records.proofs.count_at.Goals as goal
+
+pub returns : goal.returns
+returns c = c.number_at.ensures

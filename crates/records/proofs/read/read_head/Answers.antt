@@ -1,0 +1,19 @@
+use native.Mathlib.Omega.{arith}
+use Rattle.records.proofs.Reading as reading
+use borrow.Author.Rules.{rules}
+use Rattle.records.proofs.read.read_head.Goals as goal
+
+pub returns-then-not-counts_there : goal.returns-then-not-counts_there
+returns-then-not-counts_there c = reading.head_gone _ _ (reading.gone _ c.counts_there.ensures c.if-not-counts_there.true)
+
+pub loops-requires : goal.loops-requires
+loops-requires c = reading.there_header _ (reading.there _ c.counts_there.ensures c.if-not-counts_there.false)
+
+pub returns-then-face-at : goal.returns-then-face-at
+returns-then-face-at c = reading.no_head _ _ (omega arith) c.if-face-at.true
+
+pub returns-then-dst-lt-HEAD_REALS : goal.returns-then-dst-lt-HEAD_REALS
+returns-then-dst-lt-HEAD_REALS c = reading.no_head-room _ _ c.if-dst-lt-HEAD_REALS.true
+
+pub returns : goal.returns
+returns c = reading.head_read _ _ (omega arith) c.if-face-at.false c.if-dst-lt-HEAD_REALS.false (reading.head_filled _ (omega arith) _ c.read_column.ensures)

@@ -1,0 +1,5 @@
+use borrow.Author.Rules.{rules}
+use Rattle.rings.proofs.choices.offset.Goals as goal
+
+pub returns : goal.returns
+returns c = cc

@@ -1,0 +1,19 @@
+use Prim.Native.Nat.{◌-◌}
+use lib.Ieee.{nan}
+use Rattle.lists.proofs.InPlace.{Reversing, reversing, reversing_turn, reversing_end}
+use native.Mathlib.Omega.{arith}
+use borrow.Author.Rules.{rules}
+use Rattle.rings.proofs.moves.reverse.Goals as goal
+
+pub loop-i-init : goal.loop-i-init
+loop-i-init c = reversing _
+
+pub loop-i-preserved : goal.loop-i-preserved
+loop-i-preserved c = reversing_turn nan _ _ _ _ _ c.loop-i.invariant c.loop-i-test.true
+    c.swap.ensures
+
+pub shape_of-s : goal.shape_of-s
+shape_of-s c = c.loop-i.invariant.long
+
+pub returns : goal.returns
+returns c = reversing_end _ _ _ _ c.loop-i.invariant c.loop-i-test.false

@@ -1,0 +1,17 @@
+use Prim.Native.Nat.{◌-◌}
+use Rattle.rings.proofs.ReadRows.{Searching, searching, searching_turn, searching_found, searching_end}
+use borrow.Author.Rules.{rules}
+use native.Mathlib.Omega.{arith}
+use Rattle.rings.proofs.table_choices.first_past.Goals as goal
+
+pub loop-i-init : goal.loop-i-init
+loop-i-init c = searching _ _ _ c.count-n.ensures.0
+
+pub returns-then-u_at-cut : goal.returns-then-u_at-cut
+returns-then-u_at-cut c = searching_found _ _ _ _ _ c.loop-i.invariant c.loop-i-test.true c.u_at.ensures c.if-u_at-cut.true
+
+pub loop-i-preserved : goal.loop-i-preserved
+loop-i-preserved c = searching_turn _ _ _ _ _ c.loop-i.invariant c.loop-i-test.true c.u_at.ensures c.if-u_at-cut.false
+
+pub returns : goal.returns
+returns c = searching_end _ _ _ _ c.loop-i.invariant c.loop-i-test.false

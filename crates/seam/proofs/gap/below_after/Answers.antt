@@ -1,0 +1,6 @@
+use Rattle.seam.proofs.Spans.{after_is}
+use borrow.Author.Rules.{rules}
+use Rattle.seam.proofs.gap.below_after.Goals as goal
+
+pub returns : goal.returns
+returns c = after_is c.args.s.now _ _ c.requires c.below.ensures

@@ -1,0 +1,27 @@
+use Prim.Native.Nat.{◌-◌}
+use native.Mathlib.Omega.{arith}
+use borrow.Author.Rules.{rules}
+use Rattle.seam.proofs.Spans.{Sorting, sorting, sorting_turn, sorting_end, not_sorted}
+use Rattle.seam.proofs.gap.sort_spans.Goals as goal
+
+pub returns-then-low-high : goal.returns-then-low-high
+returns-then-low-high c = not_sorted _ _ c.if-low-high.true
+
+pub loop-i-init : goal.loop-i-init
+loop-i-init c = sorting _ _ c.if-low-high.false
+
+pub loop-i-preserved : goal.loop-i-preserved
+loop-i-preserved c = sorting_turn _ _ _ _ _ _ _ _ c.loop-i.invariant
+    c.loop-i-test.true
+    c.below_after.ensures.0
+    c.rotate_left.ensures c.rotate_left-in-loop-i.ensures
+    c.low-1.given c.high-1.given
+
+pub shape_of-low : goal.shape_of-low
+shape_of-low c = c.loop-i.invariant.low_long
+
+pub shape_of-high : goal.shape_of-high
+shape_of-high c = c.loop-i.invariant.high_long
+
+pub returns : goal.returns
+returns c = sorting_end _ _ _ _ _ c.loop-i.invariant c.loop-i-test.false

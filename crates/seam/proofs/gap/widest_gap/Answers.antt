@@ -1,0 +1,15 @@
+use Prim.Native.Nat.{◌-◌}
+use native.Mathlib.Omega.{arith}
+use borrow.Author.Rules.{rules}
+use Rattle.seam.proofs.Spans.{Passing, passing, passing_turn, passing-end}
+use Rattle.seam.proofs.gap.widest_gap.Goals as goal
+
+pub loop-i-init : goal.loop-i-init
+loop-i-init c = passing _ _ _
+
+pub loop-i-preserved : goal.loop-i-preserved
+loop-i-preserved c = passing_turn _ _ _ _ c.shorter-n.ensures _ _ _ c.loop-i.invariant
+    c.loop-i-test.true c.passed-g.ensures
+
+pub returns : goal.returns
+returns c = passing-end _ _ _ _ c.shorter-n.ensures _ _ _ _ c.loop-i.invariant c.loop-i-test.false c.passed.ensures

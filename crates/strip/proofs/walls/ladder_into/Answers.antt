@@ -1,0 +1,11 @@
+use Rattle.strip.proofs.walls.Laws as laws
+use borrow.Author.Rules.{rules}
+use Rattle.strip.proofs.walls.ladder_into.Goals as goal
+
+pub returns : goal.returns
+returns c = let given = c.args in
+    let least = c.min-lo.ensures in
+    let most = c.max-hi.ensures in
+    let steps = c.v_steps.ensures in
+    let inner = c.inner_into.ensures in
+    laws.ladder-written given.surface given.options given.a given.b _ _ _ least most steps given.dst.now _ inner.1.0

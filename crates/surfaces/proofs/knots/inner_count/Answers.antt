@@ -1,0 +1,8 @@
+use Rattle.std.proofs.Common.{length, ap, ◌∙◌, rules}
+use Rattle.surfaces.proofs.knots.Inner as laws
+use Rattle.surfaces.proofs.knots.Rungs.{inner-kept, inner-end}
+use Rattle.surfaces.proofs.knots.inner_count.Goals as goal
+
+pub returns : goal.returns
+returns c = let count = laws.inner_counted _ c.merge_even_steps.ensures.0 c.less_one.ensures in
+    (count, (inner-end _ _ _ _ count, count ∙ ap length (inner-kept _ _ _)))

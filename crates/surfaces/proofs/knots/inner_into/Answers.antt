@@ -1,0 +1,19 @@
+use Rattle.std.proofs.Common.{sym, ap, ◌∙◌, arith, length-take-le, rules}
+use lib.Seq.{sets}
+use Rattle.surfaces.proofs.knots.Inner as laws
+use Rattle.surfaces.proofs.knots.Rungs.{inner-kept}
+use Rattle.surfaces.proofs.knots.inner_into.Goals as goal
+
+pub slice_bounds-merge_even-end-then-m-out : goal.slice_bounds-merge_even-end-then-m-out
+slice_bounds-merge_even-end-then-m-out c = sym (length-take-le _ _ (omega arith))
+
+pub returns-then-m-out : goal.returns-then-m-out
+returns-then-m-out c = let counted = c.inner_count-m.ensures in
+    let written = laws.inner_part _ _ counted.0 c.merge_even.ensures.0 in
+    (counted.0, (written, (counted.1.0, written ∙ ap (sets _ 0) (inner-kept _ _ _))))
+
+pub returns-else-m-out : goal.returns-else-m-out
+returns-else-m-out c = let counted = c.inner_count-m.ensures in
+    let no_more = c.if-m-out.false in
+    let written = laws.inner_whole _ _ counted.0 no_more c.merge_even-else-m-out.ensures.0 in
+    (counted.0, (written, (counted.1.0, written ∙ ap (sets _ 0) (inner-kept _ _ _))))

@@ -1,0 +1,6 @@
+use Rattle.surfaces.proofs.knots.Laws as laws
+use Rattle.std.proofs.Common.{rules}
+use Rattle.surfaces.proofs.knots.slack.Goals as goal
+
+pub returns : goal.returns
+returns c = laws.slack_law _ _ c.abs.ensures

@@ -1,0 +1,7 @@
+use Rattle.surfaces.specs.Domains.{domain_of}
+use Rattle.std.proofs.Common.{rules}
+use Rattle.surfaces.proofs.surface.Surface.domain.Goals as goal
+
+pub returns : goal.returns
+unfolding domain_of
+returns c = cc

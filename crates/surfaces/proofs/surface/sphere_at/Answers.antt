@@ -1,0 +1,6 @@
+use Rattle.surfaces.proofs.surface.Laws as laws
+use Rattle.std.proofs.Common.{rules}
+use Rattle.surfaces.proofs.surface.sphere_at.Goals as goal
+
+pub returns : goal.returns
+returns c = laws.sphere_law _ _ _ _ c.sin_cos-a.ensures c.raised.ensures

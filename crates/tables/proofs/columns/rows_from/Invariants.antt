@@ -1,0 +1,11 @@
+use borrow.Author.Rules.{rules}
+use Prim.Native.Nat.{◌-◌}
+use Rattle.tables.proofs.Putting.{Putting, putting, putting_turn, putting_end, putting_none}
+use native.Mathlib.Omega.{arith}
+use Rattle.tables.proofs.columns.rows_from.Given as goal
+
+abbrev pub invariant-loop-i : goal.invariant-loop-i
+invariant-loop-i l = Putting l.u l.v l.x l.y l.z l.initial.t l.n l.t l.i
+
+abbrev pub decreases-loop-i : goal.decreases-loop-i
+decreases-loop-i l = l.n - l.i

@@ -1,0 +1,9 @@
+use Rattle.tables.proofs.Rows.{rows-set-u, set_past}
+use borrow.Author.Rules.{rules}
+use Rattle.tables.proofs.corners.put_u.Goals as goal
+
+pub returns-then-i-t : goal.returns-then-i-t
+returns-then-i-t c = rows-set-u _ _ _ c.if-i-t.true
+
+pub returns-else-i-t : goal.returns-else-i-t
+returns-else-i-t c = set_past _ _ c.if-i-t.false _

@@ -1,0 +1,13 @@
+use Prim.Native.Nat.{◌-◌}
+use Rattle.tables.specs.Corners.{move_u}
+use Rattle.tables.specs.Moves.{moved_by}
+use Rattle.tables.proofs.InPlace.{Changing, changing, moving_turn, changing_end}
+use borrow.Author.Rules.{rules}
+use native.Mathlib.Omega.{arith}
+use Rattle.tables.proofs.moves.move_u.Given as goal
+
+abbrev pub invariant-loop-i : goal.invariant-loop-i
+invariant-loop-i l = Changing (move_u (moved_by l.m)) l.initial.t l.n l.t l.i
+
+abbrev pub decreases-loop-i : goal.decreases-loop-i
+decreases-loop-i l = l.n - l.i

@@ -1,0 +1,14 @@
+use borrow.Author.Rules.{rules}
+use Prim.Native.Nat.{◌-◌}
+use native.Mathlib.Omega.{arith}
+use Rattle.tables.specs.Corners.{move_v}
+use Rattle.tables.specs.Moves.{moved_by}
+use Rattle.tables.specs.Rows.{corner_of}
+use Rattle.tables.proofs.InPlace.{Changing, changing, changing_turn, changing_end, moved_v}
+use Rattle.tables.proofs.moves.move_v.Given as goal
+
+abbrev pub invariant-loop-i : goal.invariant-loop-i
+invariant-loop-i l = Changing (move_v (moved_by l.m)) l.initial.t l.n l.t l.i
+
+abbrev pub decreases-loop-i : goal.decreases-loop-i
+decreases-loop-i l = l.n - l.i

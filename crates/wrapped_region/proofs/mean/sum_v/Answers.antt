@@ -1,0 +1,20 @@
+use Rattle.std.proofs.Common.{◌≡◌, ◌-◌, length, ap, arith, rules}
+use lib.Ieee.{Float, nan, neg}
+use Rattle.lists.proofs.Folds.{Folding, folding, folding_turn, folding_end}
+use Rattle.numbers.specs.Constants.{plus_zero}
+use Rattle.numbers.specs.Rounded.{◌⊕◌}
+use Rattle.tables.specs.Corners.{vs}
+use Rattle.tables.specs.Rows.{rows}
+use Rattle.loops.specs.Mean.{sum_of}
+use Rattle.wrapped_region.proofs.mean.Laws.{count-v}
+use Rattle.wrapped_region.proofs.mean.sum_v.Goals as goal
+
+pub loop-i-init : goal.loop-i-init
+loop-i-init c = (count-v _ _ c.count-n.ensures.0, folding _ _ _)
+
+pub loop-i-preserved : goal.loop-i-preserved
+loop-i-preserved c = (c.loop-i.invariant.0, folding_turn _ _ _ nan _ _ _ c.loop-i.invariant.1 (omega (arith, c.loop-i.invariant.0)) (ap (λ (x : Float). c.loop-i.s ⊕ x) c.v_at-s.ensures))
+
+pub returns : goal.returns
+unfolding sum_of
+returns c = folding_end _ _ _ _ _ c.loop-i.invariant.1 (omega (arith, c.loop-i.invariant.0))

@@ -1,0 +1,10 @@
+use Rattle.tables.specs.Rows.{rows}
+use Rattle.wrapped_region.proofs.ordered.Laws.{between}
+use Rattle.std.proofs.Common.{rules}
+use Rattle.wrapped_region.proofs.ordered.close_between.Goals as goal
+
+pub returns : goal.returns
+returns c = between _ _ _ _ _ c.args.crosses _ (rows c.args.upper.now) _ _ _ _ _
+    c.v_period.ensures
+    c.lift_ring.ensures
+    c.close_strip.ensures
