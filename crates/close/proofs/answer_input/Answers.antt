@@ -18,4 +18,7 @@ returns c = let given = c.args in
     let found = answered.1.1 in
     let full : length old ≡ version1.result = search rules in
     let enough : length given.face.now ≡ 20622 = search rules in
-    (within read old full answered.0 left, λ input first. of_all read old full answered.0 left input enough first found)
+    record {
+      upper_bound = within read old full answered.0 left;
+      by_index = λ input first. of_all read old full answered.0 left input enough first found;
+    }

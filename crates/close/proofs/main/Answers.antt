@@ -9,4 +9,4 @@ answer_input-length-requires c = let w = told c.in-Length.is c.read_input-input.
     w.1
 
 pub slice_bounds-write_all-end : goal.slice_bounds-write_all-end
-slice_bounds-write_all-end c = sym (length-take-le _ _ c.answer_input-length.ensures.0)
+slice_bounds-write_all-end c = sym (length-take-le _ _ c.answer_input-length.ensures.upper_bound)

@@ -7,12 +7,12 @@ use Rattle.close.proofs.Told.{told}
 use Rattle.close.proofs.read_input.Goals as goal
 
 pub loop-done-smaller : goal.loop-done-smaller
-loop-done-smaller c = let w = told c.in-Length.is c.read_more.ensures.0 in
+loop-done-smaller c = let w = told c.in-Length.is c.read_more.ensures.within in
     let i = c.loop-done.invariant in
     let t = c.if-there-done.false in
     omega arith
 
 pub loop-done-preserved : goal.loop-done-preserved
-loop-done-preserved c = let w = told c.in-Length.is c.read_more.ensures.0 in
+loop-done-preserved c = let w = told c.in-Length.is c.read_more.ensures.within in
     let i = c.loop-done.invariant in
     (search rules, omega arith)

@@ -8,10 +8,16 @@ pub returns-then-got-lt0 : goal.returns-then-got-lt0
 returns-then-got-lt0 c = let given = c.args in
     let put =
     take_put given.done (length given.bytes.now - given.done) given.bytes.now c.read-got.new.1.0 in
-    (search rules, put c.requires)
+    record {
+      within = search rules;
+      bytes_unchanged = put c.requires;
+    }
 
 pub returns : goal.returns
 returns c = let given = c.args in
     let put =
     take_put given.done (length given.bytes.now - given.done) given.bytes.now c.read-got.new.1.0 in
-    (search rules, put c.requires)
+    record {
+      within = search rules;
+      bytes_unchanged = put c.requires;
+    }

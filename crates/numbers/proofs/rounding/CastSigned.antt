@@ -21,6 +21,7 @@ le_of_lt x y h = or_left (lt x y) (eq x y) h
   where
     or_left : (a b : Bool) → T a → T (a || b)
     or_left true b t = tt
+    or_left false b t = elim t [ ]
 
 -- within range of an i64
 above_long : (x : Float) → lt x Past ≡ true → lt Under x ≡ true → T (lt (Long true) x)

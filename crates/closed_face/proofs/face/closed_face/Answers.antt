@@ -4,9 +4,9 @@ use Rattle.closed_face.proofs.face.closed_face.Goals as goal
 
 pub returns : goal.returns
 returns c = steps _ _ _ _ _ _ _ _
-    c.closed_region-outer.ensures.1
+    c.closed_region-outer.ensures.boxes_after
     _ _ _ _ _ _ _ _ _
-    c.closed_region-outer.ensures.0
+    c.closed_region-outer.ensures.value
     c.rephase_holes.ensures
     c.loop_first.ensures
     c.count_first.ensures c.part.ensures

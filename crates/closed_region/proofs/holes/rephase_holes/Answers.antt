@@ -21,8 +21,8 @@ rephase_loop-requires c = still _ _ _ _ _ _ _ _ _ _ c.loop-k.invariant _ c.piece
 pub loop-k-preserved : goal.loop-k-preserved
 loop-k-preserved c = rephasing_turn _ _ _ _ _ _ _ _ _ _ c.loop-k.invariant _ _ _
     c.loop-k-test.true
-    c.piece_end-to.ensures (search rules) c.rephase_loop.ensures.0
-    c.rephase_loop.ensures.1
+    c.piece_end-to.ensures (search rules) c.rephase_loop.ensures.t_after
+    c.rephase_loop.ensures.areas_after
 
 pub shape_of-t : goal.shape_of-t
 shape_of-t c = c.loop-k.invariant.long

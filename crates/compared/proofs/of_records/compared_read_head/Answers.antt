@@ -4,4 +4,7 @@ use borrow.Author.Rules.{rules}
 use Rattle.compared.proofs.of_records.compared_read_head.Goals as goal
 
 pub returns : goal.returns
-returns c = let read = c.read_head.ensures in (c.read_of.ensures ∙ ap read_of read.answer, read.is)
+returns c = let read = c.read_head.ensures in record {
+  value = c.read_of.ensures ∙ ap read_of read.answer;
+  dst_after = read.is;
+}

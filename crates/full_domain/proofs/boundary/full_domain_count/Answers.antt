@@ -13,4 +13,7 @@ returns-then-is_whole c = let along-v = c.side_count-then-is_whole.ensures in
 
 pub returns : goal.returns
 returns c = let whole = c.is_whole.ensures in
-    (laws.count_none _ _ _ whole c.if-is_whole.false, λ h. absurd (true≢false (sym h ∙ sym whole ∙ c.if-is_whole.false)))
+    record {
+      value = laws.count_none _ _ _ whole c.if-is_whole.false;
+      count_ends = λ h. absurd (true≢false (sym h ∙ sym whole ∙ c.if-is_whole.false));
+    }

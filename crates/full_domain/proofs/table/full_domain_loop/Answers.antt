@@ -11,11 +11,11 @@ returns-then-not-is_whole c = no_whole _ _ _ _ _ c.is_whole.ensures (not-true _ 
 pub returns-then-count-n : goal.returns-then-count-n
 returns-then-count-n c = no_room _ _ _ _ _ _ c.count.ensures.0
     (count_whole _ _ _ _ _ c.is_whole.ensures (not-false _ c.if-not-is_whole.false)
-    c.side_count-su.ensures.0.0 c.side_count-sv.ensures.0.0) c.if-count-n.true
+    c.side_count-su.ensures.value.0 c.side_count-sv.ensures.value.0) c.if-count-n.true
 
 pub returns : goal.returns
 returns c = let whole = c.is_whole.ensures in
     boundary_left _ _ _ _ _ _ _ _ _ c.count.ensures.0
     (count_whole _ _ _ _ _ whole (not-false _ c.if-not-is_whole.false)
-    c.side_count-su.ensures.0.0 c.side_count-sv.ensures.0.0) c.if-count-n.false
+    c.side_count-su.ensures.value.0 c.side_count-sv.ensures.value.0) c.if-count-n.false
     (sym whole ∙ not-false _ c.if-not-is_whole.false) c.put_boundary.ensures c.part_of.ensures c.signed_area.ensures

@@ -14,8 +14,8 @@ overflow_add-sv c = omega (arith, c.requires.1, few «V» c.args.surface c.args.
 
 pub put_sides-requires : goal.put_sides-requires
 put_sides-requires c = sides_ready c.args.surface c.args.options _ _ c.requires.0 c.requires.1 _ _ _ _ _ _ refl refl
-    c.write_rungs.ensures.0 c.write_rungs-2.ensures.0 c.part.ensures c.part-2.ensures
+    c.write_rungs.ensures.out_after c.write_rungs-2.ensures.out_after c.part.ensures c.part-2.ensures
 
 pub returns : goal.returns
 returns c = boundary_put c.args.surface c.args.options _ _ c.requires.0 c.requires.1 _ _ _ _ _ _ refl refl
-    c.write_rungs.ensures.0 c.write_rungs-2.ensures.0 c.part.ensures c.part-2.ensures _ _ _ c.put_sides.ensures
+    c.write_rungs.ensures.out_after c.write_rungs-2.ensures.out_after c.part.ensures c.part-2.ensures _ _ _ c.put_sides.ensures

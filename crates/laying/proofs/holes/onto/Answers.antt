@@ -3,4 +3,4 @@ use borrow.Author.Rules.{rules}
 use Rattle.laying.proofs.holes.onto.Goals as goal
 
 pub returns : goal.returns
-returns c = onto_is _ _ _ _ _ c.strip_shift-step.ensures.0 c.move_unless_zero.ensures
+returns c = onto_is _ _ _ _ _ c.strip_shift-step.ensures.value c.move_unless_zero.ensures

@@ -13,4 +13,4 @@ pub returns : goal.returns
 unfolding nearest_branch
 returns c = let a = c.args in
     let g = c.well_formed in
-    branch_answer a.value a.reference a.period _ g.0.1 g.1.0.1 (rw (c.if-period.false, c.branch_shift.ensures.0))
+    branch_answer a.value a.reference a.period _ g.0.1 g.1.0.1 (rw (c.if-period.false, c.branch_shift.ensures.value))

@@ -4,7 +4,10 @@ use Rattle.std.proofs.Common.{rules}
 use Rattle.numbers.proofs.root.sqrt.Goals as goal
 
 pub positive-requires : goal.positive-requires
-positive-requires c = (reals.above c.args.x c.if-x.true, laws.below_endless c.args.x c.if-x-2.true)
+positive-requires c = record {
+  fact_1 = reals.above c.args.x c.if-x.true;
+  fact_2 = laws.below_endless c.args.x c.if-x-2.true;
+}
 
 pub returns-else-x-2 : goal.returns-else-x-2
 returns-else-x-2 c = laws.endless c.args.x (reals.above c.args.x c.if-x.true) c.if-x-2.false

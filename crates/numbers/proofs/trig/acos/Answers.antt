@@ -3,6 +3,7 @@ use lib.Ieee.{Float, binary64, add, mul, le}
 use Rattle.numbers.specs.Constants.{plus_zero, half, PI}
 use Rattle.numbers.specs.Trig.{sincos_of, acos_from, acos_of}
 use Rattle.numbers.proofs.trig.acos.Goals as goal
+use Rattle.numbers.proofs.trig.acos.Goals.{then-cos-c, else-cos-c}
 
 abbrev mid : Float → Float → Float
 mid lo hi = mul binary64 (add binary64 lo hi) half
@@ -36,10 +37,10 @@ pub loop-n-preserved : goal.loop-n-preserved
 loop-n-preserved c = let l = c.loop-n in
     let x = c.args.c in
     let k = c.cos in
-    ⊎_elim
-    (λ w. ap (λ (z : Float). acos_from x (l.n - 1) z c.if-cos-c.hi) w.1 ∙ ap (acos_from x (l.n - 1) (mid l.lo l.hi)) w.2 ∙ sym (step_up x l.lo l.hi l.n k.result c.loop-n-test.true k.ensures w.0.taken) ∙ l.invariant)
-    (λ w. ap (λ (z : Float). acos_from x (l.n - 1) z c.if-cos-c.hi) w.1 ∙ ap (acos_from x (l.n - 1) l.lo) w.2 ∙ sym (step_down x l.lo l.hi l.n k.result c.loop-n-test.true k.ensures w.0.left) ∙ l.invariant)
-    c.if-cos-c.branch
+    elim c.if-cos-c.branch [
+      | then-cos-c w ↦ ap (λ (z : Float). acos_from x (l.n - 1) z c.if-cos-c.hi) w.lo-is ∙ ap (acos_from x (l.n - 1) (mid l.lo l.hi)) w.hi-is ∙ sym (step_up x l.lo l.hi l.n k.result c.loop-n-test.true k.ensures w.if-cos-c.true) ∙ l.invariant
+      | else-cos-c w ↦ ap (λ (z : Float). acos_from x (l.n - 1) z c.if-cos-c.hi) w.lo-is ∙ ap (acos_from x (l.n - 1) l.lo) w.hi-is ∙ sym (step_down x l.lo l.hi l.n k.result c.loop-n-test.true k.ensures w.if-cos-c.false) ∙ l.invariant
+    ]
 
 pub returns : goal.returns
 returns c = ended c.args.c c.loop-n.lo c.loop-n.hi c.loop-n.n c.loop-n-test.false ∙ c.loop-n.invariant

@@ -10,10 +10,16 @@ pub loop-i-init : goal.loop-i-init
 loop-i-init c = seen_start
 
 pub returns-then-bytes-i : goal.returns-then-bytes-i
-returns-then-bytes-i c = (λ e. absurd (true≢false (sym e)), seen_other c.loop-i.invariant c.loop-i-test.true (λ e. c.if-bytes-i.true (e ∙ sym c.shade.ensures)))
+returns-then-bytes-i c = record {
+  painted = λ e. absurd (true≢false (sym e));
+  value = seen_other c.loop-i.invariant c.loop-i-test.true (λ e. c.if-bytes-i.true (e ∙ sym c.shade.ensures));
+}
 
 pub loop-i-preserved : goal.loop-i-preserved
 loop-i-preserved c = seen_turn c.loop-i.invariant (c.if-bytes-i.false ∙ c.shade.ensures)
 
 pub returns : goal.returns
-returns c = (λ e. seen_end c.loop-i.invariant c.loop-i-test.false, λ p. refl)
+returns c = record {
+  painted = λ e. seen_end c.loop-i.invariant c.loop-i-test.false;
+  value = λ p. refl;
+}

@@ -13,7 +13,7 @@ loop-i-init c = sorting _ _ c.if-low-high.false
 pub loop-i-preserved : goal.loop-i-preserved
 loop-i-preserved c = sorting_turn _ _ _ _ _ _ _ _ c.loop-i.invariant
     c.loop-i-test.true
-    c.below_after.ensures.0
+    c.below_after.ensures.value
     c.rotate_left.ensures c.rotate_left-in-loop-i.ensures
     c.low-1.given c.high-1.given
 

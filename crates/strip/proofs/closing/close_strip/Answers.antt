@@ -30,4 +30,4 @@ returns c = laws.strip-fits c.args.frame c.args.surface c.args.options c.args.pe
     c.shorter.ensures
     c.if-shorter-n.false _ _
     c.raise_wall.ensures c.first_rows.ensures _ _
-    c.close_rows.ensures.0 c.close_rows.ensures.1
+    c.close_rows.ensures.value c.close_rows.ensures.out_after

@@ -8,12 +8,12 @@ use Rattle.strip.proofs.walls.heights_into.Goals as goal
 pub returns-then-dst-n : goal.returns-then-dst-n
 returns-then-dst-n c = let given = c.args in
     laws.both_heights given.surface given.options given.lower given.upper given.dst.now _
-    (laws.heights-none given.surface given.options given.lower given.upper given.dst.now _ c.wall_count-n.ensures.0 c.if-dst-n.true)
+    (laws.heights-none given.surface given.options given.lower given.upper given.dst.now _ c.wall_count-n.ensures.value c.if-dst-n.true)
 
 pub returns-then-lower-upper : goal.returns-then-lower-upper
 returns-then-lower-upper c = let given = c.args in
     laws.both_heights given.surface given.options given.lower given.upper given.dst.now _
-    (laws.heights_up given.surface given.options given.lower given.upper given.dst.now _ c.wall_count-n.ensures.0 _ c.if-dst-n.false c.ladder_into.ensures c.if-lower-upper.true)
+    (laws.heights_up given.surface given.options given.lower given.upper given.dst.now _ c.wall_count-n.ensures.value _ c.if-dst-n.false c.ladder_into.ensures c.if-lower-upper.true)
 
 pub slice_bounds-reverse-end-2 : goal.slice_bounds-reverse-end-2
 slice_bounds-reverse-end-2 c = sym (length-take-le _ _ (omega arith))
@@ -21,4 +21,4 @@ slice_bounds-reverse-end-2 c = sym (length-take-le _ _ (omega arith))
 pub returns : goal.returns
 returns c = let given = c.args in
     laws.both_heights given.surface given.options given.lower given.upper given.dst.now _
-    (laws.heights_down given.surface given.options given.lower given.upper given.dst.now _ c.wall_count-n.ensures.0 _ c.if-dst-n.false c.ladder_into.ensures _ c.if-lower-upper.false c.reverse.ensures)
+    (laws.heights_down given.surface given.options given.lower given.upper given.dst.now _ c.wall_count-n.ensures.value _ c.if-dst-n.false c.ladder_into.ensures _ c.if-lower-upper.false c.reverse.ensures)

@@ -11,4 +11,4 @@ returns-then-shorter-eq0 c = laws.no_heights _ _ _ _ _ _ _ c.count.ensures.0 c.c
 pub returns : goal.returns
 returns c = laws.some_heights _ _ _ _ _ _ _ c.count.ensures.0
     c.count-2.ensures.0 c.shorter.ensures c.if-shorter-eq0.false
-    _ _ _ (c.v_at.ensures ∙ v-at _ 0) (c.v_at-2.ensures ∙ v-at _ 0) c.wall_count.ensures.0
+    _ _ _ (c.v_at.ensures ∙ v-at _ 0) (c.v_at-2.ensures ∙ v-at _ 0) c.wall_count.ensures.value

@@ -27,4 +27,4 @@ returns c = laws.raised (row_on c.args.frame c.args.surface) _ _ _ _ _ _ _ _ _ (
     c.inner_between-n.ensures
     c.count.ensures.0
     c.if-count-n.false
-    c.heights_into.ensures.0 c.spread.ensures
+    c.heights_into.ensures.dst_after c.spread.ensures

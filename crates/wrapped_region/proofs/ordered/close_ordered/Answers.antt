@@ -11,8 +11,8 @@ returns-then-first_is_lower c = ordered_first _ _ _ _ c.args.with1 c.args.with2 
     c.first_is_lower.ensures
     c.if-first_is_lower.true
     c.crosses-crossed.ensures
-    (c.close_between.ensures.0, c.close_between.ensures.1.0)
-    refl c.close_between.ensures.1.1
+    (c.close_between.ensures.value, c.close_between.ensures.out_after.0)
+    refl c.close_between.ensures.out_after.1
 
 pub returns : goal.returns
 returns c = ordered_later _ _ _ _ c.args.with1 c.args.with2 (rings_of c.args.first.now c.args.later.now) _ _ _ _ _ _ _ _ _ _ _
@@ -22,5 +22,5 @@ returns c = ordered_later _ _ _ _ c.args.with1 c.args.with2 (rings_of c.args.fir
     c.first_is_lower.ensures
     c.if-first_is_lower.false
     c.crosses-crossed-2.ensures
-    (c.close_between-2.ensures.0, c.close_between-2.ensures.1.0)
-    refl c.close_between-2.ensures.1.1
+    (c.close_between-2.ensures.value, c.close_between-2.ensures.out_after.0)
+    refl c.close_between-2.ensures.out_after.1
