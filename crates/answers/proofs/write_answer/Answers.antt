@@ -12,7 +12,7 @@ returns-in-Closed c = let given = c.args in
     let call = c.close_face-answer.ensures in
     let told = c.in-Closed.is in
     let wrote = closed-written o call.0 old call.1.0 told (search rules) in
-    (wrote.0, (wrote.1, found_in o old wrote.1 (four-bytes_hold o given.face.now old call.0 call.1.1.0)))
+    record { value = wrote.0; out_after = wrote.1; found_in = found_in o old wrote.1 (four-bytes_hold o given.face.now old call.0 call.1.1.0) }
 
 pub returns-in-Refused : goal.returns-in-Refused
 returns-in-Refused c = let given = c.args in
@@ -21,4 +21,4 @@ returns-in-Refused c = let given = c.args in
     let call = c.close_face-answer.ensures in
     let told = c.in-Refused.is in
     let wrote = refused_written o call.0 old call.1.0 told c.write_refusal.ensures in
-    (wrote.0, (wrote.1, found_in o old wrote.1 (four-bytes_hold o given.face.now old call.0 call.1.1.0)))
+    record { value = wrote.0; out_after = wrote.1; found_in = found_in o old wrote.1 (four-bytes_hold o given.face.now old call.0 call.1.1.0) }

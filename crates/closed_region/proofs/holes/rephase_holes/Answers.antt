@@ -6,10 +6,10 @@ use Rattle.closed_region.proofs.MovedHoles.{Rephasing, rephasing, still, rephasi
 use Rattle.closed_region.proofs.holes.rephase_holes.Goals as goal
 
 pub returns-then-counts-outer : goal.returns-then-counts-outer
-returns-then-counts-outer c = no_outer _ _ _ _ _ _ c.if-counts-outer.true
+returns-then-counts-outer c = let r = no_outer _ _ _ _ _ _ c.if-counts-outer.true in record { t_after = r.0; areas_after = r.1 }
 
 pub returns-then-areas-counts : goal.returns-then-areas-counts
-returns-then-areas-counts c = no_areas _ _ _ _ _ _ c.if-areas-counts.true
+returns-then-areas-counts c = let r = no_areas _ _ _ _ _ _ c.if-areas-counts.true in record { t_after = r.0; areas_after = r.1 }
 
 pub loop-k-init : goal.loop-k-init
 loop-k-init c = rephasing _ _ _ _ _ _ c.count-n.ensures.0 c.if-counts-outer.false
@@ -31,5 +31,5 @@ pub shape_of-areas : goal.shape_of-areas
 shape_of-areas c = c.loop-k.invariant.fill.long
 
 pub returns : goal.returns
-returns c = holes_left _ _ _ _ _ _ _ _ _ _ _ _ _ c.loop_of.ensures c.branch_of-b.ensures
-    c.loop-k.invariant c.loop-k-test.false
+returns c = let r = holes_left _ _ _ _ _ _ _ _ _ _ _ _ _ c.loop_of.ensures c.branch_of-b.ensures
+    c.loop-k.invariant c.loop-k-test.false in record { t_after = r.0; areas_after = r.1 }

@@ -3,10 +3,10 @@ use borrow.Author.Rules.{rules}
 use Rattle.closed_region.proofs.holes.rephase_loop.Goals as goal
 
 pub returns-then-k-outer : goal.returns-then-k-outer
-returns-then-k-outer c = loop_stays _ _ _ _ _ _ _ c.if-k-outer.true
+returns-then-k-outer c = let r = loop_stays _ _ _ _ _ _ _ c.if-k-outer.true in record { t_after = r.0; areas_after = r.1 }
 
 pub returns : goal.returns
-returns c = loop_moves _ _ _ _ c.args.areas.now _ _
+returns c = let r = loop_moves _ _ _ _ c.args.areas.now _ _
     c.if-k-outer.false _ _ _ _
     c.at.ensures c.rephase_part-area.ensures
-    c.put.ensures
+    c.put.ensures in record { t_after = r.0; areas_after = r.1 }

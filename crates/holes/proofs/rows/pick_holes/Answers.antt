@@ -1,3 +1,5 @@
+use mathlib.Core.Bool.{not}
+use Rattle.std.proofs.Common.{ap}
 use borrow.Author.Rules.{rules}
 use Prim.Native.Nat.{◌-◌, ◌*◌, ◌^◌, ◌<◌}
 use mathlib.Core.Path.{◌≡◌, refl, ◌∙◌}
@@ -9,10 +11,10 @@ use Rattle.holes.proofs.rows.pick_holes.Goals as goal
 
 pub returns-then-not-has_room : goal.returns-then-not-has_room
 returns-then-not-has_room c = picking_none _ _ _ _ _ _ _ _ _ c.count_rows.ensures.0 c.count.ensures.0 c.has_room.ensures
-    c.if-not-has_room.true
+    (ap not c.if-not-has_room.true)
 
 pub loop-i-init : goal.loop-i-init
-loop-i-init c = (refl, (c.count-n.ensures.0, (c.count-n.ensures.1, picking _ _ _ _ _ _ _ _ _ c.count_rows.ensures.0 c.count.ensures.0 c.has_room.ensures c.if-not-has_room.false)))
+loop-i-init c = (refl, (c.count-n.ensures.0, (c.count-n.ensures.1, picking _ _ _ _ _ _ _ _ _ c.count_rows.ensures.0 c.count.ensures.0 c.has_room.ensures (ap not c.if-not-has_room.false))))
 
 pub pick_one-requires : goal.pick_one-requires
 pick_one-requires c = picking_forth _ _ _ _ _ _ _ _ _ _ _ _ _ c.loop-i.invariant.1.1.1 c.loop-i-test.true

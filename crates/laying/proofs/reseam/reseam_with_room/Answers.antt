@@ -1,27 +1,29 @@
+use mathlib.Core.Bool.{not}
+use Rattle.std.proofs.Common.{ap}
 use Rattle.laying.proofs.Reseaming.{stripless, none_across, at_gap, no_gap}
 use borrow.Author.Rules.{rules}
 use Rattle.laying.proofs.reseam.reseam_with_room.Goals as goal
 
 pub returns-then-not-has_strip : goal.returns-then-not-has_strip
-returns-then-not-has_strip c = stripless _ _ _ _ _ _ c.least_u-lo.ensures _ c.has_strip.ensures c.if-not-has_strip.true
+returns-then-not-has_strip c = stripless _ _ _ _ _ _ c.least_u-lo.ensures _ c.has_strip.ensures (ap not c.if-not-has_strip.true)
 
 pub returns-then-not-any_straddles : goal.returns-then-not-any_straddles
 returns-then-not-any_straddles c = none_across _ _ _ _ _ _ c.least_u-lo.ensures _
     c.has_strip.ensures
-    c.if-not-has_strip.false _ c.onto_all.ensures _
-    c.any_straddles.ensures c.if-not-any_straddles.true
+    (ap not c.if-not-has_strip.false) _ c.onto_all.ensures _
+    c.any_straddles.ensures (ap not c.if-not-any_straddles.true)
 
 pub returns-then-usable : goal.returns-then-usable
 returns-then-usable c = at_gap _ _ _ _ _ _
     c.least_u-lo.ensures
     _
     c.has_strip.ensures
-    c.if-not-has_strip.false
+    (ap not c.if-not-has_strip.false)
     _
     c.onto_all.ensures
     _
     c.any_straddles.ensures
-    c.if-not-any_straddles.false
+    (ap not c.if-not-any_straddles.false)
     _ c.gap_of-gap.ensures _
     c.usable.ensures
     c.if-usable.true _ _ _
@@ -32,8 +34,8 @@ returns-else-usable c = no_gap _ _ _ _ _ _
     c.least_u-lo.ensures
     _
     c.has_strip.ensures
-    c.if-not-has_strip.false _
+    (ap not c.if-not-has_strip.false) _
     c.onto_all.ensures _
     c.any_straddles.ensures
-    c.if-not-any_straddles.false _
+    (ap not c.if-not-any_straddles.false) _
     c.gap_of-gap.ensures _ c.usable.ensures c.if-usable.false

@@ -4,13 +4,13 @@ use borrow.Author.Rules.{rules}
 use Rattle.laying.proofs.start.take_start.Goals as goal
 
 pub returns-then-room-count : goal.returns-then-room-count
-returns-then-room-count c = none-taken _ c.args.u.now c.args.v.now c.args.x.now c.args.y.now c.args.z.now _ _ _ _
+returns-then-room-count c = let r = none-taken _ c.args.u.now c.args.v.now c.args.x.now c.args.y.now c.args.z.now _ _ _ _
     c.shorter-parameters.ensures
     c.shorter.ensures
     c.shorter-2.ensures
     c.shorter-room.ensures _ _ c.args.first.now
     c.args.later.now c.count.ensures.0 c.count-2.ensures.0 _
-    c.search_tables-found.ensures c.if-room-count.true
+    c.search_tables-found.ensures c.if-room-count.true in record { value = r.0; first_after = r.1.0; later_after = r.1.1 }
 
 pub first_within-requires : goal.first_within-requires
 first_within-requires c = let e = room_each c.args.period c.args.u.now c.args.v.now c.args.x.now c.args.y.now c.args.z.now _ _ _ _ c.shorter-parameters.ensures c.shorter.ensures c.shorter-2.ensures c.shorter-room.ensures in
@@ -25,7 +25,7 @@ shape_of-u c = omega
     (arith, c.u-1.given, c.u-2-1.given, c.u-3-1.given)
 
 pub returns : goal.returns
-returns c = start-taken _ c.args.u.now c.args.v.now c.args.x.now c.args.y.now c.args.z.now _ _ _ _
+returns c = let r = start-taken _ c.args.u.now c.args.v.now c.args.x.now c.args.y.now c.args.z.now _ _ _ _
     c.shorter-parameters.ensures
     c.shorter.ensures
     c.shorter-2.ensures
@@ -39,4 +39,4 @@ returns c = start-taken _ c.args.u.now c.args.v.now c.args.x.now c.args.y.now c.
     _ _ _
     c.first_within.ensures
     c.first_of-cut.ensures
-    c.later_within.ensures
+    c.later_within.ensures in record { value = r.0; first_after = r.1.0; later_after = r.1.1 }

@@ -1,16 +1,18 @@
+use mathlib.Core.Bool.{not}
+use Rattle.std.proofs.Common.{ap}
 use native.Mathlib.Omega.{arith}
 use Rattle.records.proofs.Reading as reading
 use borrow.Author.Rules.{rules}
 use Rattle.records.proofs.read.read_corners.Goals as goal
 
 pub returns-then-not-counts_there : goal.returns-then-not-counts_there
-returns-then-not-counts_there c = reading.corners_gone _ _ (reading.gone _ c.counts_there.ensures c.if-not-counts_there.true)
+returns-then-not-counts_there c = reading.corners_gone _ _ (reading.gone _ c.counts_there.ensures (ap not c.if-not-counts_there.true))
 
 pub points-n-requires : goal.points-n-requires
-points-n-requires c = reading.there_long _ (reading.there _ c.counts_there.ensures c.if-not-counts_there.false)
+points-n-requires c = reading.there_long _ (reading.there _ c.counts_there.ensures (ap not c.if-not-counts_there.false))
 
 pub loops-requires : goal.loops-requires
-loops-requires c = reading.there_header _ (reading.there _ c.counts_there.ensures c.if-not-counts_there.false)
+loops-requires c = reading.there_header _ (reading.there _ c.counts_there.ensures (ap not c.if-not-counts_there.false))
 
 pub returns-then-face-loops : goal.returns-then-face-loops
 returns-then-face-loops c = reading.no_corners _ _ (omega arith) c.if-face-loops.true

@@ -1,3 +1,5 @@
+use mathlib.Core.Bool.{not}
+use Rattle.std.proofs.Common.{ap}
 use native.Mathlib.Omega.{arith}
 use Prim.Native.Nat.{◌+◌, ◌-◌, ◌*◌, ◌≤◌}
 use lib.ListN.{length}
@@ -8,16 +10,16 @@ use borrow.Author.Rules.{rules}
 use Rattle.records.proofs.read.read_counts.Goals as goal
 
 pub returns-then-not-counts_there : goal.returns-then-not-counts_there
-returns-then-not-counts_there c = reading.counts_gone _ _ (reading.gone _ c.counts_there.ensures c.if-not-counts_there.true)
+returns-then-not-counts_there c = reading.counts_gone _ _ (reading.gone _ c.counts_there.ensures (ap not c.if-not-counts_there.true))
 
 pub loops-l-requires : goal.loops-l-requires
-loops-l-requires c = reading.there_header _ (reading.there _ c.counts_there.ensures c.if-not-counts_there.false)
+loops-l-requires c = reading.there_header _ (reading.there _ c.counts_there.ensures (ap not c.if-not-counts_there.false))
 
 pub returns-then-dst-l : goal.returns-then-dst-l
 returns-then-dst-l c = reading.no_counts-room _ _ c.loops-l.ensures.0 c.if-dst-l.true
 
 pub loop-k-init : goal.loop-k-init
-loop-k-init c = (columns.counts_start _ c.loops-l.ensures.0 c.if-dst-l.false, reading.there_long _ (reading.there _ c.counts_there.ensures c.if-not-counts_there.false))
+loop-k-init c = (columns.counts_start _ c.loops-l.ensures.0 c.if-dst-l.false, reading.there_long _ (reading.there _ c.counts_there.ensures (ap not c.if-not-counts_there.false)))
 
 pub loop-k-preserved : goal.loop-k-preserved
 loop-k-preserved c = (columns.counts_turn _ c.loops-l.ensures.0 c.loop-k.invariant.0 c.loop-k-test.true c.count_at.ensures.0, c.loop-k.invariant.1)
@@ -26,4 +28,4 @@ pub shape_of-dst : goal.shape_of-dst
 shape_of-dst c = c.loop-k.invariant.0.long
 
 pub returns : goal.returns
-returns c = reading.counts_read _ _ (reading.there _ c.counts_there.ensures c.if-not-counts_there.false) c.loops-l.ensures.0 c.if-dst-l.false (columns.counts_end _ c.loops-l.ensures.0 c.loop-k.invariant.0 c.loop-k-test.false)
+returns c = reading.counts_read _ _ (reading.there _ c.counts_there.ensures (ap not c.if-not-counts_there.false)) c.loops-l.ensures.0 c.if-dst-l.false (columns.counts_end _ c.loops-l.ensures.0 c.loop-k.invariant.0 c.loop-k-test.false)

@@ -1,13 +1,15 @@
+use mathlib.Core.Bool.{not}
+use Rattle.std.proofs.Common.{ap}
 use native.Mathlib.Omega.{arith}
 use Rattle.records.proofs.Reading as reading
 use borrow.Author.Rules.{rules}
 use Rattle.records.proofs.read.read_head.Goals as goal
 
 pub returns-then-not-counts_there : goal.returns-then-not-counts_there
-returns-then-not-counts_there c = reading.head_gone _ _ (reading.gone _ c.counts_there.ensures c.if-not-counts_there.true)
+returns-then-not-counts_there c = reading.head_gone _ _ (reading.gone _ c.counts_there.ensures (ap not c.if-not-counts_there.true))
 
 pub loops-requires : goal.loops-requires
-loops-requires c = reading.there_header _ (reading.there _ c.counts_there.ensures c.if-not-counts_there.false)
+loops-requires c = reading.there_header _ (reading.there _ c.counts_there.ensures (ap not c.if-not-counts_there.false))
 
 pub returns-then-face-at : goal.returns-then-face-at
 returns-then-face-at c = reading.no_head _ _ (omega arith) c.if-face-at.true

@@ -1,3 +1,5 @@
+use mathlib.Core.Bool.{not}
+use Rattle.std.proofs.Common.{ap}
 use Prim.Native.Nat.{◌-◌}
 use lib.ListN.{length}
 use native.Mathlib.Omega.{arith}
@@ -8,10 +10,10 @@ pub loop-i-init : goal.loop-i-init
 loop-i-init c = counting _ _
 
 pub returns-then-not-s-i : goal.returns-then-not-s-i
-returns-then-not-s-i c = counting_found _ _ _ c.loop-i.invariant c.loop-i-test.true c.if-not-s-i.true
+returns-then-not-s-i c = counting_found _ _ _ c.loop-i.invariant c.loop-i-test.true (ap not c.if-not-s-i.true)
 
 pub loop-i-preserved : goal.loop-i-preserved
-loop-i-preserved c = counting_turn _ _ _ c.loop-i.invariant c.loop-i-test.true c.if-not-s-i.false
+loop-i-preserved c = counting_turn _ _ _ c.loop-i.invariant c.loop-i-test.true (ap not c.if-not-s-i.false)
 
 pub returns : goal.returns
 returns c = counting_end _ _ _ c.loop-i.invariant c.loop-i-test.false

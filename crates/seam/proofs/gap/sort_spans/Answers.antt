@@ -5,7 +5,7 @@ use Rattle.seam.proofs.Spans.{Sorting, sorting, sorting_turn, sorting_end, not_s
 use Rattle.seam.proofs.gap.sort_spans.Goals as goal
 
 pub returns-then-low-high : goal.returns-then-low-high
-returns-then-low-high c = not_sorted _ _ c.if-low-high.true
+returns-then-low-high c = let r = not_sorted _ _ c.if-low-high.true in record { low_after = r.0; high_after = r.1 }
 
 pub loop-i-init : goal.loop-i-init
 loop-i-init c = sorting _ _ c.if-low-high.false
@@ -24,4 +24,4 @@ pub shape_of-high : goal.shape_of-high
 shape_of-high c = c.loop-i.invariant.high_long
 
 pub returns : goal.returns
-returns c = sorting_end _ _ _ _ _ c.loop-i.invariant c.loop-i-test.false
+returns c = let r = sorting_end _ _ _ _ _ c.loop-i.invariant c.loop-i-test.false in record { low_after = r.0; high_after = r.1 }

@@ -1,3 +1,5 @@
+use mathlib.Core.Bool.{not}
+use Rattle.std.proofs.Common.{ap}
 use borrow.Author.Rules.{rules}
 use Prim.Native.Nat.{◌-◌}
 use mathlib.Core.Path.{◌∙◌}
@@ -8,7 +10,7 @@ use Rattle.strip.proofs.repeats.Laws as laws
 use Rattle.strip.proofs.closing.keep_successive.Goals as goal
 
 pub returns-then-n-eq0 : goal.returns-then-n-eq0
-returns-then-n-eq0 c = laws.fold_none _ _ _ c.requires.0 c.if-n-eq0.true
+returns-then-n-eq0 c = let r = laws.fold_none _ _ _ c.requires.0 c.if-n-eq0.true in record { value = r.0; out_after = r.1 }
 
 pub loop-i-init : goal.loop-i-init
 loop-i-init c = laws.folding _ _ _ _ c.requires.0 c.requires.1 c.if-n-eq0.false c.strip_corner-last.ensures
@@ -16,16 +18,16 @@ loop-i-init c = laws.folding _ _ _ _ c.requires.0 c.requires.1 c.if-n-eq0.false 
 pub loop-i-preserved-then-not-repeated_by : goal.loop-i-preserved-then-not-repeated_by
 loop-i-preserved-then-not-repeated_by c = laws.fold_other _ _ _ _ _ _ _ _ _ c.loop-i.invariant
     c.loop-i-test.true c.strip_corner-next.ensures
-    c.repeated_by.ensures _ c.if-not-repeated_by.true c.put_corner.ensures
+    c.repeated_by.ensures _ (ap not c.if-not-repeated_by.true) c.put_corner.ensures
     c.out-1.given
 
 pub loop-i-preserved : goal.loop-i-preserved
 loop-i-preserved c = laws.fold_repeat _ _ _ _ _ _ _ _ _ c.loop-i.invariant c.loop-i-test.true
-    c.strip_corner-next.ensures c.repeated_by.ensures c.if-not-repeated_by.false
+    c.strip_corner-next.ensures c.repeated_by.ensures (ap not c.if-not-repeated_by.false)
 
 pub shape_of-out : goal.shape_of-out
 shape_of-out c = c.out-2-1.given ∙ c.loop-i.invariant.long
 
 pub returns : goal.returns
-returns c = laws.fold_end _ _ _ _ _ _ _ _ c.loop-i.invariant c.loop-i-test.false
-    c.put_corner-2.ensures
+returns c = let r = laws.fold_end _ _ _ _ _ _ _ _ c.loop-i.invariant c.loop-i-test.false
+    c.put_corner-2.ensures in record { value = r.0; out_after = r.1 }

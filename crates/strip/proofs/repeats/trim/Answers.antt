@@ -1,3 +1,5 @@
+use mathlib.Core.Bool.{not}
+use Rattle.std.proofs.Common.{ap}
 use borrow.Author.Rules.{rules}
 use native.Mathlib.Omega.{arith}
 use Rattle.tables.specs.Rows.{rows}
@@ -10,12 +12,12 @@ loop-r-init c = laws.trimming _ _ c.count-r.ensures.0
 pub returns-then-not-repeated_by : goal.returns-then-not-repeated_by
 returns-then-not-repeated_by c = laws.trim_stop _ _ _ c.loop-r.invariant c.loop-r-test.true _ _
     c.corner_at-first.ensures c.corner_at.ensures c.repeated_by.ensures
-    c.if-not-repeated_by.true
+    (ap not c.if-not-repeated_by.true)
 
 pub loop-r-preserved : goal.loop-r-preserved
 loop-r-preserved c = laws.trim_again _ _ _ c.loop-r.invariant c.loop-r-test.true _ _
     c.corner_at-first.ensures c.corner_at.ensures c.repeated_by.ensures
-    c.if-not-repeated_by.false
+    (ap not c.if-not-repeated_by.false)
 
 pub returns : goal.returns
 returns c = laws.trim_few _ _ c.loop-r.invariant c.loop-r-test.false

@@ -1,3 +1,5 @@
+use mathlib.Core.Bool.{not}
+use Rattle.std.proofs.Common.{ap}
 use Prim.Native.Nat.{◌-◌}
 use mathlib.Core.Path.{refl}
 use native.Mathlib.Omega.{arith}
@@ -6,10 +8,10 @@ use Rattle.tables.proofs.slices.Laws as laws
 use Rattle.tables.proofs.slices.copy_into.Goals as goal
 
 pub returns-then-not-has_room : goal.returns-then-not-has_room
-returns-then-not-has_room c = laws.writing_none _ _ _ _ _ refl c.has_room.ensures c.if-not-has_room.true
+returns-then-not-has_room c = laws.writing_none _ _ _ _ _ refl c.has_room.ensures (ap not c.if-not-has_room.true)
 
 pub loop-i-init : goal.loop-i-init
-loop-i-init c = laws.writing _ _ _ _ _ refl c.has_room.ensures c.if-not-has_room.false
+loop-i-init c = laws.writing _ _ _ _ _ refl c.has_room.ensures (ap not c.if-not-has_room.false)
 
 pub loop-i-preserved : goal.loop-i-preserved
 loop-i-preserved c = laws.writing_turn _ _ _ _ _ _ _ c.loop-i.invariant c.loop-i-test.true refl

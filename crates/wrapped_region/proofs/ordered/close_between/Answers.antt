@@ -4,7 +4,7 @@ use Rattle.std.proofs.Common.{rules}
 use Rattle.wrapped_region.proofs.ordered.close_between.Goals as goal
 
 pub returns : goal.returns
-returns c = between _ _ _ _ _ c.args.crosses _ (rows c.args.upper.now) _ _ _ _ _
+returns c = let r = between _ _ _ _ _ c.args.crosses _ (rows c.args.upper.now) _ _ _ _ _
     c.v_period.ensures
     c.lift_ring.ensures
-    c.close_strip.ensures
+    c.close_strip.ensures in record { value = r.0; out_after = r.1.0; upper_after = r.1.1 }
