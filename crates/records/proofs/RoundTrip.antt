@@ -61,16 +61,25 @@ module _ {A : Type 0} {one : List ℕ → ℕ → A} {write : A → List ℕ} {w
   length-row [] = omega arith
   length-row (a ∷ l) = length-append (write a) (row write l) ∙ (let e = c.wide a in let f = length-row l in omega arith)
 
+  row_at_none : (s : List ℕ) (p : ℕ) → row_at one w s p 0 ≡ []
+  unfolding row_at
+  row_at_none s p = refl
+
+  row_at_next : (s : List ℕ) (p n : ℕ) → row_at one w s p (suc n) ≡ one s p ∷ row_at one w s (p + w) n
+  unfolding row_at
+  row_at_next s p n = refl
+
   row_back : {l : List A} → All Ok l → (p q : List ℕ) → row_at one w (p ++ (row write l ++ q)) (length p) (length l) ≡ l
-  unfolding row row_at
-  row_back none p q = refl
+  unfolding row
+  row_back none p q = row_at_none _ _
   row_back (and {a} {l} h hs) p q =
       let tail : List ℕ = row write l ++ q in
       let far : length (p ++ write a) ≡ length p + w = length-append p (write a) ∙ ap (λ (k : ℕ). length p + k) (c.wide a) in
       let rest : row_at one w (p ++ (write a ++ tail)) (length p + w) (length l) ≡ l =
       rw (← far, ← append_assoc p (write a) tail) (row_back hs (p ++ write a) q) in
       rw (append_assoc (write a) (row write l) q)
-      (ap (λ (x : A). x ∷ row_at one w (p ++ (write a ++ tail)) (length p + w) (length l)) (c.back a h p tail) ∙ ap (λ (r : List A). a ∷ r) rest)
+      (row_at_next (p ++ (write a ++ tail)) (length p) (length l)
+      ∙ ap (λ (x : A). x ∷ row_at one w (p ++ (write a ++ tail)) (length p + w) (length l)) (c.back a h p tail) ∙ ap (λ (r : List A). a ∷ r) rest)
 
   -- the same where the place and the number are known by equations
   row_here : {l : List A} → All Ok l → (s p q : List ℕ) (k n : ℕ) → s ≡ p ++ (row write l ++ q) → k ≡ length p → n ≡ length l → row_at one w s k n ≡ l

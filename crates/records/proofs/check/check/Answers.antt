@@ -14,32 +14,32 @@ abbrev face-1 : In_default → List ℕ
 face-1 c = c.args.face.now
 
 abbrev face-2 : In_default-too_many_loops → List ℕ
-face-2 c = face-1 c
+face-2 c = c.args.face.now
 
 abbrev face-3 : In_default-ends_in_counts → List ℕ
-face-3 c = face-2 c
+face-3 c = c.args.face.now
 
 abbrev face-4 : In_default-too_few_points → List ℕ
-face-4 c = face-3 c
+face-4 c = c.args.face.now
 
 abbrev face-5 : In_default-too_many_points → List ℕ
-face-5 c = face-4 c
+face-5 c = c.args.face.now
 
 abbrev face-6 : In_default-wrong_length → List ℕ
-face-6 c = face-5 c
+face-6 c = c.args.face.now
 
 abbrev face-7 : In_default-first_bad_real → List ℕ
-face-7 c = face-6 c
+face-7 c = c.args.face.now
 
 -- the limits, where they are asked for
 abbrev limits-1 : In_default → Limits
 limits-1 c = c.args.limits
 
 abbrev limits-2 : In_default-too_many_loops → Limits
-limits-2 c = limits-1 c
+limits-2 c = c.args.limits
 
 abbrev limits-5 : In_default-too_many_points → Limits
-limits-5 c = limits-2 c
+limits-5 c = c.args.limits
 
 -- what did not hold there
 past-1 : (c : In_default) → wrong_header (face-1 c) ≡ nowhere
