@@ -10,4 +10,4 @@ pub returns : goal.returns
 returns c = let r = hole_moves _ _ _ _ _ _ _ c.box_of-own.ensures
     c.hole_shift-su.ensures.value
     c.hole_shift-sv.ensures.value c.stays.ensures
-    c.if-stays.false _ _ c.move_hole.ensures in record { value = r.0; t_after = r.1 }
+    c.if-stays.false _ _ (c.move_hole.ensures.value, c.move_hole.ensures.t_after) in record { value = r.0; t_after = r.1 }

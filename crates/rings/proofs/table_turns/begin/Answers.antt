@@ -13,11 +13,11 @@ returns-then-n-k c = rows-past _ _ _ c.count-n.ensures.0 _ _ c.if-n-k.true
 
 pub reverse_part-requires-2 : goal.reverse_part-requires-2
 reverse_part-requires-2 c = omega
-    (arith, length-rows c.reverse_part.new.0, length-rows c.args.t.now)
+    (arith, length-rows c.reverse_part.new.t, length-rows c.args.t.now)
 
 pub move_part-requires : goal.move_part-requires
 move_part-requires c = omega
-    (arith, length-rows c.reverse_rows.new.0, length-rows c.args.t.now)
+    (arith, length-rows c.reverse_rows.new.t, length-rows c.args.t.now)
 
 pub returns : goal.returns
 returns c = rows-begun (move_u (moved_by c.args.again)) (rows c.args.t.now) c.count-n.result c.count-n.ensures.0 c.args.k _ _ _ _ c.if-n-k.false
