@@ -1,5 +1,5 @@
-//! The Rattle crate `closer`, linked as a static library: the call as `include/closer.h` declares
-//! it. Nothing checks this declaration against `crates/closer/src`: they must say the same.
+//! The Rattle crate `closer_c`, linked as a static library: the call as `include/closer.h` declares
+//! it. Nothing checks this declaration against `crates/closer_c/src`: they must say the same.
 
 #[link(name = "closer", kind = "static")]
 unsafe extern "C" {

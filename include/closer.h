@@ -1,7 +1,7 @@
 /*
  * The closer: one face of a part in, one outer loop and its holes out.
  *
- * Link target/staticlib/libcloser.a, which `rt staticlib closer` makes; it needs no other library.
+ * Link out/staticlib/libcloser.a, which `tools/archive closer_c` makes; it needs no other library.
  */
 #ifndef CLOSER_H
 #define CLOSER_H

@@ -41,7 +41,7 @@ band, the two walls of the seam; and beside it the positions, seen from above an
 PIPE = """\
 Packs examples/pipe.toml, has close close it, shows and draws the answer, and counts its corners:
 where each comes from. The program is looked for under --close, then under the environment
-variable CLOSE, then in target/bin/close of the repository."""
+variable CLOSE, then in crates/close/out/close of the repository."""
 
 
 def parser():

@@ -11,7 +11,7 @@ from .picture import picture
 from .words import in_words, refusal_line
 
 ROOT = Path(__file__).resolve().parents[2]
-BUILT = ROOT / "target" / "bin" / "close"
+BUILT = ROOT / "crates" / "close" / "out" / "close"
 
 
 def pipe(program):

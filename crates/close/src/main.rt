@@ -2,7 +2,7 @@
 // to standard output.
 #![tactic(auto)]
 
-ghost use Rattle.std.specs.Prelude.{◌≡◌, List, ℕ, ◌≤◌, length, take};
+ghost use Rattle.std.specs.Prelude.{◌≡◌, List, ℕ, ◌≤◌, length, take, IfOk};
 ghost use Rattle.records.specs.Call.{output};
 ghost use Rattle.records.specs.Limits.{version1};
 ghost use Rattle.call.specs.Judge.{judge};
@@ -10,6 +10,8 @@ ghost use Rattle.answers.specs.Written.{FoundIn};
 ghost use Rattle.close.specs.Input.{Within};
 
 use answers::write_answer;
+use std::io;
+use std::io::{ErrorKind, Print, Read, Stdin};
 
 // The longest record that is accepted has 20,621 bytes. Of an input one byte more is read, and the
 // answer to those is the answer to all of it.
@@ -30,33 +32,31 @@ enum Input {
     Failed,
 }
 
-// Reads once, to the bytes from `done` on.
-fn read_once(fd: i32, bytes: &mut [u8], done: usize) -> Input
+// Reads once, to the bytes from `done` on, and says how many are there then.
+fn read_once(input: &mut Stdin, bytes: &mut [u8], done: usize) -> io::Result<usize>
     requires { done ≤ length bytes.old }
-    ensures within { Within result done (length bytes.new) }
+    ensures within { IfOk result (λ there. Within (Length there) done (length bytes.new)) }
     ensures bytes_unchanged { take done bytes.new ≡ take done bytes.old }
 {
-    let got = libc::read(fd, &mut bytes[done..]);
-    if got < 0 {
-        return Input::Failed;
-    }
-    let more = io::count(got, &bytes[done..]);
-    Input::Length(done + more)
+    let more = input.read(&mut bytes[done..])?;
+    Ok(done + more)
 }
 
 // Reads once, and again where a signal interrupted the read before it moved a byte.
-fn read_more(fd: i32, bytes: &mut [u8], done: usize) -> Input
+fn read_more(input: &mut Stdin, bytes: &mut [u8], done: usize) -> Input
     requires { done ≤ length bytes.old }
     ensures within { Within result done (length bytes.new) }
     ensures bytes_unchanged { take done bytes.new ≡ take done bytes.old }
 {
     let mut tries = TRIES;
     while tries > 0 {
-        if let Input::Length(there) = read_once(fd, bytes, done) {
-            return Input::Length(there);
-        }
-        if os::errno() != libc::EINTR {
-            return Input::Failed;
+        match read_once(input, bytes, done) {
+            Ok(there) => return Input::Length(there),
+            Err(error) => {
+                if error.kind() != ErrorKind::Interrupted {
+                    return Input::Failed;
+                }
+            }
         }
         tries -= 1;
     }
@@ -64,12 +64,12 @@ fn read_more(fd: i32, bytes: &mut [u8], done: usize) -> Input
 }
 
 // Reads until the input ends or the bytes are full.
-fn read_input(fd: i32, bytes: &mut [u8]) -> Input
+fn read_input(input: &mut Stdin, bytes: &mut [u8]) -> Input
     ensures { Within result 0 (length bytes.new) }
 {
     let mut done = 0;
     while done < bytes.len() {
-        let Input::Length(there) = read_more(fd, bytes, done) else {
+        let Input::Length(there) = read_more(input, bytes, done) else {
             return Input::Failed;
         };
         if there == done {
@@ -95,13 +95,14 @@ fn answer_input(face: &[u8; READ], n: usize, out: &mut [u8; LENT]) -> usize
     write_answer(&bytes[..n], out)
 }
 
-fn main() {
+// Where a read fails nothing is written, and a write that fails is not told: the status is 0.
+fn main(rt: HostRuntime) {
     let mut face = [0u8; READ];
-    let input = read_input(0, &mut face);
+    let input = read_input(&mut rt.stdin(), &mut face);
     let Input::Length(n) = input else {
         return;
     };
     let mut out = [0u8; LENT];
     let length = answer_input(&face, n, &mut out);
-    io::write_all(1, &out[..length]);
+    let _ = rt.write_all(&out[..length]);
 }

@@ -1,4 +1,5 @@
 // The call for C: the refusal, or 0, is the result; its place, or the result record's length, is stored.
+// The crate `closer_c` exports it.
 ghost use Rattle.std.specs.Prelude.{◌≡◌, length};
 ghost use Rattle.records.specs.Call.{code, value as value_in, lent_after};
 ghost use Rattle.call.specs.Demands.{Demand1, BandDemand, WholeDemand};
@@ -28,8 +29,7 @@ fn value_of(answer: Answer) -> usize
 
 // What `close_face` says of its answer is said here of the pair. A caller in C lends three pieces of
 // memory that do not overlap, of the lengths given (include/closer.h).
-#[unsafe(no_mangle)]
-pub extern "C" fn closer_close_face(record: &[u8], res: &mut [u8], value: &mut usize) -> u32
+pub fn closer_close_face(record: &[u8], res: &mut [u8], value: &mut usize) -> u32
     ensures value { result ≡ code (judge (length res.old) «record».now) }
     ensures value_after { value.new ≡ value_in (judge (length res.old) «record».now) }
     ensures res_after { res.new ≡ lent_after (judge (length res.old) «record».now) res.old }

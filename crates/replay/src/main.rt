@@ -10,6 +10,10 @@ ghost use Rattle.records.specs.Bytes.{number};
 use answers::{four_bytes, write_refusal};
 use closer::{Answer, close_face};
 use painted::{is_painted, paint};
+use std::io::{Print, Read};
+
+// No face is longer, and no more is lent.
+const MOST: usize = 65536;
 
 fn wide(byte: u8) -> usize
     ensures { result ≡ byte }
@@ -24,74 +28,80 @@ fn number(a: u8, b: u8, c: u8, d: u8) -> usize
 }
 
 // What is stored of an answer: the length of its bytes, those bytes, and whether all others stayed.
-fn write_stored(answer: &[u8], stayed: bool) -> bool {
+fn write_stored(rt: &HostRuntime, answer: &[u8], stayed: bool) -> bool {
     let length = four_bytes(answer.len());
-    if !io::write_all(1, &length) {
+    if rt.write_all(&length).is_err() {
         return false;
     }
-    if !io::write_all(1, answer) {
+    if rt.write_all(answer).is_err() {
         return false;
     }
     if stayed {
-        return io::write_all(1, b"\x00");
+        return rt.write_all(b"\x00").is_ok();
     }
-    io::write_all(1, b"\x01")
+    rt.write_all(b"\x01").is_ok()
 }
 
 // Closes a face with these bytes lent, whatever they hold.
-fn answer_face(face: &[u8], lent: &mut [u8]) -> bool {
+fn answer_face(rt: &HostRuntime, face: &[u8], lent: &mut [u8]) -> bool {
     paint(lent);
     let answer = close_face(face, lent);
     match answer {
         Answer::Closed(length) => {
             let stayed = is_painted(lent, length);
-            write_stored(&lent[..length], stayed)
+            write_stored(rt, &lent[..length], stayed)
         }
         Answer::Refused { number, place } => {
             let mut six = [0u8; 6];
             let length = write_refusal(number, place, &mut six);
             let stayed = is_painted(lent, 0);
-            write_stored(&six[..length], stayed)
+            write_stored(rt, &six[..length], stayed)
         }
     }
 }
 
 // Reads a record of so many bytes and answers it. False where the input ends too early, or a face
 // asks for more than there is.
-fn replay_face(lent: usize, length: usize, face: &mut [u8], res: &mut [u8]) -> bool {
+fn replay_face(
+    rt: &HostRuntime,
+    lent: usize,
+    length: usize,
+    face: &mut [u8],
+    res: &mut [u8],
+) -> bool {
     if res.len() < lent {
         return false;
     }
     if face.len() < length {
         return false;
     }
-    if io::read_full(0, &mut face[..length]) < length {
+    if rt.stdin().read_exact(&mut face[..length]).is_err() {
         return false;
     }
-    answer_face(&face[..length], &mut res[..lent])
+    answer_face(rt, &face[..length], &mut res[..lent])
 }
 
 // The next face, if there is one.
-fn next_face(face: &mut [u8], res: &mut [u8]) -> bool {
+fn next_face(rt: &HostRuntime, face: &mut [u8], res: &mut [u8]) -> bool {
     let mut head = [0u8; 8];
-    if io::read_full(0, &mut head) < 8 {
+    if rt.stdin().read_exact(&mut head).is_err() {
         return false;
     }
     let lent = number(head[0], head[1], head[2], head[3]);
     let length = number(head[4], head[5], head[6], head[7]);
-    replay_face(lent, length, face, res)
+    replay_face(rt, lent, length, face, res)
 }
 
 // The turns are counted because a loop has to end, and nothing says that the input does.
-fn replay_all(face: &mut [u8], res: &mut [u8]) {
+fn replay_all(rt: &HostRuntime, face: &mut [u8], res: &mut [u8]) {
     let mut turns = u64::MAX;
-    while turns > 0 && next_face(face, res) {
+    while turns > 0 && next_face(rt, face, res) {
         turns -= 1;
     }
 }
 
-fn main() {
-    let mut face = io::large_buffer();
-    let mut result = io::large_buffer();
-    replay_all(&mut face, &mut result);
+fn main(rt: HostRuntime) {
+    let mut face = [0u8; MOST];
+    let mut result = [0u8; MOST];
+    replay_all(&rt, &mut face, &mut result);
 }
