@@ -139,8 +139,8 @@ tube-strip = refl
 
 -- the repeats are gone
 tube-outer : positions (outer plain tube) ≡ 10 ∷ 11 ∷ 12 ∷ 10 ∷ 40 ∷ 50 ∷ 20 ∷ 22 ∷ 21 ∷ 20 ∷ 50 ∷ 40 ∷ []
-unfolding outer plain drop_merging drop_successive drop_trailing kept_from cut_back
-tube-outer = ap (λ (s : Corners ℕ). positions (drop_repeats (λ (a b : Corner ℕ). eqb a.at b.at) s)) tube-strip
+unfolding outer plain drop_merging drop_successive drop_trailing kept_from cut_back strip_of strip heights ladder lower_ring upper_ring lower_first first_is_lower lift joined laid rising shifted least_u greatest_u reseam has_strip across_seam on_strip any_straddles started start first_serving first_from serves serve begins_backward stands_at_the_cut trial turned_unless align_cuts align_at turned_onto nearest first_least slide_to_cut unless_zero turned begun closed least_of greatest_of mean_of sum_of abs_of round_away tube given_of only low_loop high_loop bore onto strip_shift straddles floor_of add sub mul div neg lt le eq ne of_bits of_int inner
+tube-outer = refl
 
 -- no hole is across, the ends meet, 10 to 11 is one step of the lower ring, and 21 to 22 one of the upper ring read backward
 tube_clear : across_seam plain.period (laid plain.period tube) ≡ false
@@ -152,12 +152,12 @@ unfolding plain tube given_of only low_loop high_loop bore ends_meet
 tube_meets = refl
 
 tube-steps : net eqb 10 11 (positions (outer plain tube)) ≡ pos 1
-unfolding net net_of count steps_round steps_along
-tube-steps = ap (net eqb 10 11) tube-outer
+unfolding net net_of count steps_round steps_along outer plain drop_merging drop_successive drop_trailing kept_from cut_back strip_of strip heights ladder lower_ring upper_ring lower_first first_is_lower lift joined laid rising shifted least_u greatest_u reseam has_strip across_seam on_strip any_straddles started start first_serving first_from serves serve begins_backward stands_at_the_cut trial turned_unless align_cuts align_at turned_onto nearest first_least slide_to_cut unless_zero turned begun closed least_of greatest_of mean_of sum_of abs_of round_away tube given_of only low_loop high_loop bore onto strip_shift straddles floor_of add sub mul div neg lt le eq ne of_bits of_int inner
+tube-steps = refl
 
 tube-steps-upper : net eqb 21 22 (positions (outer plain tube)) ≡ negsuc 0
-unfolding net net_of count steps_round steps_along
-tube-steps-upper = ap (net eqb 21 22) tube-outer
+unfolding net net_of count steps_round steps_along outer plain drop_merging drop_successive drop_trailing kept_from cut_back strip_of strip heights ladder lower_ring upper_ring lower_first first_is_lower lift joined laid rising shifted least_u greatest_u reseam has_strip across_seam on_strip any_straddles started start first_serving first_from serves serve begins_backward stands_at_the_cut trial turned_unless align_cuts align_at turned_onto nearest first_least slide_to_cut unless_zero turned begun closed least_of greatest_of mean_of sum_of abs_of round_away tube given_of only low_loop high_loop bore onto strip_shift straddles floor_of add sub mul div neg lt le eq ne of_bits of_int inner
+tube-steps-upper = refl
 
 -- ---- the later ring is slid to the cut
 
@@ -422,10 +422,10 @@ record Counts : Type 0 where
   twice_down_and_up : counts_of twice_down twice_up ≡ pos 1 ∷ pos 1 ∷ pos 1 ∷ negsuc 0 ∷ negsuc 0 ∷ negsuc 0 ∷ pos 0 ∷ pos 0 ∷ []
 
 counts : Counts
-unfolding pairs counts_round counts_of net net_of count steps_round steps_along five four twice_up twice_down
+unfolding pairs counts_round counts_of net net_of count steps_round steps_along five four twice_up twice_down strip_of strip heights ladder lower_ring upper_ring lower_first first_is_lower lift joined holes laid rising shifted least_u greatest_u reseam has_strip across_seam on_strip any_straddles gap_of has_gap cut_anew recut first_open_past first_past widest_gap gap_along sorted insert passed usable started start first_serving first_from serves serve begins_backward stands_at_the_cut trial turned_unless align_cuts align_at turned_onto nearest first_least slide_to_cut unless_zero turned begun closed least_of greatest_of mean_of sum_of abs_of round_away plain given_of only low_loop high_loop drilled at_cut before_cut three_up three_down wrap_every turns_counted to_signed further reaches slot bored pierced late unserved thirds torus rising-at up_from-rising up_from_falling onto strip_shift straddles floor_of add sub mul div neg lt le eq ne of_bits of_int inner rungs ended_on kept_divisions kept_after near slack_of divisions_from division outer drop_merging drop_successive drop_trailing kept_from cut_back
 counts = record {
-  cut_anew_counts = ap counts_round values.cut_anew_outer;
+  cut_anew_counts = refl;
   four_and_five = refl;
-  twice_counts = ap counts_round values.twice_outer;
+  twice_counts = refl;
   twice_down_and_up = refl;
 }

@@ -1,4 +1,3 @@
-mod Local
 mod Columns
 pub mod Recorded
 mod Rings

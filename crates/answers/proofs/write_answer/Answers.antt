@@ -11,8 +11,8 @@ returns-in-Closed c = let given = c.args in
     let o = judge (length old) given.face.now in
     let call = c.close_face-answer.ensures in
     let told = c.in-Closed.is in
-    let wrote = closed-written o call.0 old call.1.0 told (search rules) in
-    record { value = wrote.0; out_after = wrote.1; found_in = found_in o old wrote.1 (four-bytes_hold o given.face.now old call.0 call.1.1.0) }
+    let wrote = closed-written o call.value old call.res_after told (search rules) in
+    record { value = wrote.0; out_after = wrote.1; found_in = found_in o old wrote.1 (four-bytes_hold o given.face.now old call.value call.1.1.0) }
 
 pub returns-in-Refused : goal.returns-in-Refused
 returns-in-Refused c = let given = c.args in
@@ -20,5 +20,5 @@ returns-in-Refused c = let given = c.args in
     let o = judge (length old) given.face.now in
     let call = c.close_face-answer.ensures in
     let told = c.in-Refused.is in
-    let wrote = refused_written o call.0 old call.1.0 told (c.write_refusal.ensures.value, c.write_refusal.ensures.out_after) in
-    record { value = wrote.0; out_after = wrote.1; found_in = found_in o old wrote.1 (four-bytes_hold o given.face.now old call.0 call.1.1.0) }
+    let wrote = refused_written o call.value old call.res_after told (c.write_refusal.ensures.value, c.write_refusal.ensures.out_after) in
+    record { value = wrote.0; out_after = wrote.1; found_in = found_in o old wrote.1 (four-bytes_hold o given.face.now old call.value call.1.1.0) }

@@ -2,6 +2,7 @@ use Prim.Native.Nat.{◌-◌}
 use lib.IntN.{pos}
 use native.Mathlib.Omega.{arith}
 use mir.Facts.{to_z-of_z}
+use mir.Syntax.{w32}
 use borrow.Author.Rules.{rules, sfits_of}
 use Rattle.loop_records.specs.declared.LoopRecord.{LoopRecord}
 use Rattle.loop_records.proofs.Columns.{Reading, no_reading, reading, reading_turn, reading_end}
@@ -20,7 +21,7 @@ pub bounds-wraps-i : goal.bounds-wraps-i
 bounds-wraps-i c = let l = c.loop-i.invariant.fill.long in omega arith
 
 pub loop-i-preserved : goal.loop-i-preserved
-loop-i-preserved c = reading_turn _ _ _ _ _ _ _ _ (pos 0) _ c.loop-i.invariant c.loop-i-test.true (to_z-of_z (sfits_of c.struct_told-1.given.1.1.0.1))
+loop-i-preserved c = reading_turn _ _ _ _ _ _ _ _ (pos 0) _ c.loop-i.invariant c.loop-i-test.true (to_z-of_z {w = w32} (search rules))
 
 pub shape_of-wraps : goal.shape_of-wraps
 shape_of-wraps c = c.loop-i.invariant.fill.long

@@ -27,7 +27,7 @@ returns-then-usable c = at_gap _ _ _ _ _ _
     _ c.gap_of-gap.ensures _
     c.usable.ensures
     c.if-usable.true _ _ _
-    (c.cut_anew.ensures.first_after, c.cut_anew.ensures.later_after, c.cut_anew.ensures.holes_after)
+    (c.cut_anew.ensures.first_after, (c.cut_anew.ensures.later_after, c.cut_anew.ensures.holes_after))
 
 pub returns-else-usable : goal.returns-else-usable
 returns-else-usable c = no_gap _ _ _ _ _ _

@@ -11,8 +11,8 @@ returns-then-first_is_lower c = let r = ordered_first _ _ _ _ c.args.with1 c.arg
     c.first_is_lower.ensures
     c.if-first_is_lower.true
     c.crosses-crossed.ensures
-    (c.close_between.ensures.value, c.close_between.ensures.out_after.0)
-    refl c.close_between.ensures.out_after.1 in record { value = r.0; out_after = r.1.0; first_after = r.1.1.0; later_after = r.1.1.1 }
+    (c.close_between.ensures.value, c.close_between.ensures.out_after)
+    refl c.close_between.ensures.upper_after in record { value = r.0; out_after = r.1.0; first_after = r.1.1.0; later_after = r.1.1.1 }
 
 pub returns : goal.returns
 returns c = let r = ordered_later _ _ _ _ c.args.with1 c.args.with2 (rings_of c.args.first.now c.args.later.now) _ _ _ _ _ _ _ _ _ _ _
@@ -22,5 +22,5 @@ returns c = let r = ordered_later _ _ _ _ c.args.with1 c.args.with2 (rings_of c.
     c.first_is_lower.ensures
     c.if-first_is_lower.false
     c.crosses-crossed-2.ensures
-    (c.close_between-2.ensures.value, c.close_between-2.ensures.out_after.0)
-    refl c.close_between-2.ensures.out_after.1 in record { value = r.0; out_after = r.1.0; first_after = r.1.1.0; later_after = r.1.1.1 }
+    (c.close_between-2.ensures.value, c.close_between-2.ensures.out_after)
+    refl c.close_between-2.ensures.upper_after in record { value = r.0; out_after = r.1.0; first_after = r.1.1.0; later_after = r.1.1.1 }
