@@ -3,4 +3,4 @@ use borrow.Author.Rules.{rules}
 use Rattle.compared.proofs.of_closed_region.compared_rephase_holes.Goals as goal
 
 pub returns : goal.returns
-returns c = rw (sym c.period_of-u.ensures, sym c.period_of-v.ensures) (c.rephase_holes.ensures.t_after, c.rephase_holes.ensures.areas_after)
+returns c = rw (sym c.period_of-u.ensures, sym c.period_of-v.ensures) c.rephase_holes.ensures

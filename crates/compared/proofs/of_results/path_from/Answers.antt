@@ -11,4 +11,4 @@ rest (suc zero) n₀ n₁ = absurd (n₁ refl)
 rest (suc (suc k)) n₀ n₁ = refl
 
 pub returns-in_default : goal.returns-in_default
-returns-in_default c = rest c.args.number c.in-0.rest.0.1 c.in-0.rest.1
+returns-in_default c = rest c.args.number (search rules) (search rules)

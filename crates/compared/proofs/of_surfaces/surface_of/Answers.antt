@@ -1,5 +1,6 @@
 use mathlib.Core.Path.{◌≡◌, refl, sym, ap}
 use Prim.Native.Nat.{ℕ, zero, suc}
+use borrow.Author.Rules.{rules}
 use lib.Ieee.{Float}
 use Rattle.surfaces.specs.declared.surface.Surface.TheVariants.{Torus}
 use Rattle.compared.specs.Surfaces.{surface_of}
@@ -25,4 +26,4 @@ pub returns-in-3 : goal.returns-in-3
 returns-in-3 c = ap (λ (k : ℕ). surface_of k c.args.a c.args.b) (sym c.in-3.is)
 
 pub returns-in_default : goal.returns-in_default
-returns-in_default c = rest c.args.kind _ _ c.in-0.rest.0.0.0.1 c.in-0.rest.0.0.1 c.in-0.rest.0.1 c.in-0.rest.1
+returns-in_default c = rest c.args.kind _ _ (search rules) (search rules) (search rules) (search rules)
