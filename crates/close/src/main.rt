@@ -35,7 +35,7 @@ enum Input {
 // Reads once, to the bytes from `done` on, and says how many are there then.
 fn read_once(input: &mut Stdin, bytes: &mut [u8], done: usize) -> io::Result<usize>
     requires { done ≤ length bytes.old }
-    ensures within { IfOk result (λ there. Within (Length there) done (length bytes.new)) }
+    ensures within { IfOk result (λ there. Within (Input.Length there) done (length bytes.new)) }
     ensures bytes_unchanged { take done bytes.new ≡ take done bytes.old }
 {
     let more = input.read(&mut bytes[done..])?;

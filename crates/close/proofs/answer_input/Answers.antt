@@ -14,11 +14,11 @@ returns c = let given = c.args in
     let read = take given.n given.face.now in
     let old = given.out.now in
     let answered = c.write_answer.ensures in
-    let left = answered.1.0 in
-    let found = answered.1.1 in
+    let left = answered.out_after in
+    let found = answered.found_in in
     let full : length old ≡ version1.result = search rules in
     let enough : length given.face.now ≡ 20622 = search rules in
     record {
-      upper_bound = within read old full answered.0 left;
-      by_index = λ input first. of_all read old full answered.0 left input enough first found;
+      upper_bound = within read old full answered.value left;
+      by_index = λ input first. of_all read old full answered.value left input enough first found;
     }

@@ -1,7 +1,5 @@
-use mathlib.Core.Path.{◌≡◌, ◌∙◌}
+use mathlib.Core.Path.{◌≡◌}
 use lib.ListN.{length, take}
-use borrow.Author.Rules.{rules}
-use Rattle.close.proofs.Told.{told}
 use Rattle.close.proofs.read_more.Given as goal
 
 abbrev pub invariant-loop-tries : goal.invariant-loop-tries

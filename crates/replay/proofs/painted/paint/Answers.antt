@@ -1,8 +1,6 @@
-use Prim.Native.Nat.{◌-◌}
 use native.Mathlib.Omega.{arith}
-use lib.ListN.{length}
 use borrow.Author.Rules.{rules}
-use Rattle.replay.proofs.Painting.{PaintedTo, paint_start, paint_turn, paint_end}
+use Rattle.replay.proofs.Painting.{paint_start, paint_turn, paint_end}
 use Rattle.replay.proofs.painted.paint.Goals as goal
 
 pub loop-i-init : goal.loop-i-init
