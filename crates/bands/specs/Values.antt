@@ -1,11 +1,10 @@
 -- Values of the band path, computed. Positions are letters or numbers here.
 use Rattle.std.specs.Prelude.{ℕ, ◌+◌, ◌≡◌, refl, Bool, true, false, List, [], ◌∷◌, map, reverse, eqb, ℤ, pos, negsuc, ◌+ℤ◌, Float}
-use Rattle.std.proofs.Common.{ap}
 use Rattle.std.specs.Float.{binary64, fin}
 use Rattle.std.specs.Float.Ieee.{add, sub, mul, div, neg, lt, le, eq, ne, of_bits, of_int, to_signed}
 use Rattle.loops.specs.Steps.{net, net_of, count, steps_round, steps_along}
 use Rattle.loops.specs.Rings.{ends_meet, begun, closed, turned}
-use Rattle.loops.specs.Repeats.{drop_merging, drop_repeats, drop_successive, drop_trailing, kept_from, cut_back}
+use Rattle.loops.specs.Repeats.{drop_merging, drop_successive, drop_trailing, kept_from, cut_back}
 use Rattle.numbers.specs.Order.{abs_of}
 use Rattle.numbers.specs.Round.{round_away, floor_of}
 use Rattle.loops.specs.Mean.{mean_of, sum_of}

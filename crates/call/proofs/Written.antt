@@ -19,7 +19,6 @@ use Rattle.surfaces.specs.declared.surface.Surface.{Surface}
 use Rattle.surfaces.specs.declared.surface.Surface.TheVariants.{Plane, Cylinder, Cone, Sphere, Torus}
 use Rattle.surfaces.specs.Domains.{between, full_turn, domain_of}
 use Rattle.surfaces.specs.Rungs.{inner}
-use Rattle.loops.specs.Area.{area_of}
 use Rattle.loops.proofs.Trailing.{repeats_fewer}
 use Rattle.closed_region.specs.Outer.{holes_of}
 use Rattle.closed_region.specs.Rephase.{shift_of, moved, rephased}

@@ -20,7 +20,7 @@ use Rattle.surfaces.specs.declared.surface.Surface.TheVariants.{Plane, Cylinder,
 use Rattle.surfaces.specs.Domains.{u_period, v_period}
 use Rattle.surfaces.proofs.surface.Points.{Sizes}
 use Rattle.lists.specs.Pieces.{pieces}
-use Rattle.tables.specs.Corners.{Corner, Corners, positions, corners_from}
+use Rattle.tables.specs.Corners.{Corner, Corners, corners_from}
 use Rattle.records.specs.declared.limits.Limits.{Limits}
 use Rattle.records.specs.Accepted.{Accepted}
 use Rattle.records.specs.Bytes.{u16_at, ◌=?◌}

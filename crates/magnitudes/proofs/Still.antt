@@ -1,5 +1,5 @@
 -- 02, N2, of the whole call: round a whole sphere or torus every step count is zero. The frame and the sizes are bounded, so the points at a pole are finite.
-use Prim.Native.Nat.{ℕ, ◌≤◌, ◌<◌}
+use Prim.Native.Nat.{ℕ, ◌<◌}
 use mathlib.Core.Path.{◌≡◌, refl, sym, ap, ◌∙◌, subst}
 use mathlib.Core.Bool.{Bool, true, false, cond, ◌&&◌}
 use mathlib.Core.List.{List, [], ◌∷◌, ◌++◌, map, map-map, append-nil}

@@ -44,7 +44,7 @@ use Rattle.call.proofs.Demands.{two_wrap, strip_short, rings_whole, passed, can_
 use Rattle.call.proofs.Doubles.{FitsCorner}
 use Rattle.call.proofs.Each.{all_append, all_only, all_map, all_so}
 use Rattle.call.proofs.Loops.{loops_many, loops-total, loops_fit, given_each}
-use Rattle.call.proofs.Sizes.{total, each_short}
+use Rattle.call.proofs.Sizes.{each_short}
 use Rattle.call.proofs.Strips.{High, lower-low, upper-high}
 use Rattle.magnitudes.specs.Bounded.{EachReal, Bounded, most_angle, most_plane_u, most_height, most_u, most_v, most_coordinate, ResultBounded}
 use Rattle.magnitudes.proofs.Bands.{curved, outer_sized, holes_sized}

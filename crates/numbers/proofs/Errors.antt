@@ -16,7 +16,7 @@ use Rattle.numbers.specs.WholeNumbers.{Nearest, Whole, downward}
 use Rattle.numbers.proofs.Integers.{Difference, difference_add, difference_sub, difference_most, most_difference}
 use Rattle.numbers.proofs.Magnitude.{held_pow, round_within, within_finite}
 use Rattle.numbers.proofs.Monotone.{Positive}
-use Rattle.numbers.proofs.Signed.{keep, turn, less, Rounded, above, under}
+use Rattle.numbers.proofs.Signed.{keep, turn, Rounded, above, under}
 use Rattle.numbers.proofs.Units.{Counts, value-counts, real-counts, counts-units, add-counts, sub-counts, mul-counts, div-counts}
 use Rattle.numbers.proofs.rounding.Meaning.{round-nearest, floor_means}
 

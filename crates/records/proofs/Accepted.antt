@@ -12,10 +12,10 @@ use borrow.Author.Tests.{ltb-false, eqb-true, le-ltb, eq-eqb, not-false}
 use Rattle.numbers.specs.declared.math.Vec2.{Vec2}
 use Rattle.numbers.specs.declared.math.Vec3.{Vec3}
 use Rattle.records.specs.Bytes.{◌<?◌, u16_at, number_at, real_at, uv_at, xyz_at, row_at}
-use Rattle.lists.specs.Elements.{sum, All, none}
+use Rattle.lists.specs.Elements.{sum, All}
 use Rattle.records.specs.Face.{header_size, head_reals, version, kind, loops, sense, segments, count, counts, start, points, reals, needed, real_place, parameters, positions}
 use Rattle.records.specs.declared.limits.Limits.{Limits}
-use Rattle.records.specs.Limits.{min_points, Range, ◌to◌, holds, u_range, v_range, xyz_range, range}
+use Rattle.records.specs.Limits.{min_points, Range, holds, u_range, v_range, xyz_range, range}
 use Rattle.records.specs.Refusals.{nowhere, at, first_from, first_where, passes, verdict, record_conditions, wrong_byte, wrong_header, too_many_loops, ends_in_counts, too_few_points, too_many_points, wrong_length, bad_real, first_bad_real}
 use Rattle.records.specs.Accepted.{Accepted}
 use Rattle.records.specs.Result.{Fits, FitsUv, FitsXyz}

@@ -1,7 +1,7 @@
 -- The rungs of `merge_even` (`knots.rs`) for no breaks (01, item 4): the even divisions of a stretch, less those too near the one kept before; where the two
 -- ends differ, ended on the upper one (02, N2). Callers use the laws of proofs/knots.
 -- The Rust sorts the divisions first. Where lo ≤ hi, where lo, hi and hi - lo are finite and n is at most 2 ^ 53, that changes nothing (proofs/knots/Rising.antt); 01 leaves the rest free.
-use Rattle.std.specs.Prelude.{◌≡◌, ℕ, zero, suc, ◌+◌, ◌-◌, ◌<◌, max, Bool, true, cond, List, [], ◌∷◌, ◌++◌, length, drop, set, nat_le, slice_index_or, slice_set, Float}
+use Rattle.std.specs.Prelude.{◌≡◌, ℕ, zero, suc, ◌+◌, ◌-◌, ◌<◌, max, Bool, true, cond, List, [], ◌∷◌, ◌++◌, length, drop, nat_le, slice_index_or, slice_set, Float}
 use mathlib.Core.List.{drop_last}
 use Rattle.std.specs.Float.{nan}
 use Rattle.std.specs.Float.Ieee.{le, ne}

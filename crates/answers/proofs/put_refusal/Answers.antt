@@ -1,6 +1,5 @@
 use native.Mathlib.Omega.{arith}
 use lib.ListN.{length-set}
-use borrow.Author.Rules.{rules}
 use Rattle.records.specs.Bytes.{bytes}
 use Rattle.answers.proofs.put_refusal.Goals as goal
 

@@ -1,4 +1,3 @@
-use borrow.Author.Rules.{rules}
 use Rattle.answers.proofs.Front.{six_short, six_written}
 use Rattle.answers.proofs.write_refusal.Goals as goal
 

@@ -1,5 +1,4 @@
 use Rattle.closer.proofs.Call.{promised, too_few, header_refused, face_refused, face-closed}
-use borrow.Author.Rules.{rules}
 use Rattle.closer.proofs.close_face.Goals as goal
 
 -- refusal 1

@@ -2,7 +2,6 @@ use mathlib.Core.Path.{sym}
 use native.Mathlib.Omega.{arith}
 use lib.Seq.{length-take-le}
 use Rattle.closer.proofs.Call.{bytes_told}
-use borrow.Author.Rules.{rules}
 use Rattle.closer.proofs.write_loops.Goals as goal
 
 pub slice_bounds-write_result-end : goal.slice_bounds-write_result-end

@@ -1,7 +1,6 @@
 use native.Mathlib.Omega.{arith}
 use Rattle.bands.specs.Columns.{setting_of}
 use Rattle.filling.proofs.Between.{between, still_short}
-use borrow.Author.Rules.{rules}
 use Rattle.filling.proofs.band_between.Goals as goal
 
 pub shape_of-first : goal.shape_of-first

@@ -4,7 +4,6 @@ use lib.Seq.{length-take-le}
 use borrow.Author.Rules.{sfits_of}
 use Rattle.filling.proofs.Finding.{falls_held}
 use Rattle.filling.proofs.Taken.{a_inside, b_inside, ring-taken, falls-taken, counts-taken, holes-taken, band-taken, first_short, later_short}
-use borrow.Author.Rules.{rules}
 use Rattle.filling.proofs.band_of.Goals as goal
 
 pub slice_bounds-band_between-end : goal.slice_bounds-band_between-end

@@ -2,7 +2,6 @@ use native.Mathlib.Omega.{arith}
 use Rattle.filling.proofs.Taken.{room_in}
 use Rattle.filling.proofs.Finding.{areas-put, face_of_lem}
 use Rattle.filling.proofs.Banded.{filled_short, filled_long}
-use borrow.Author.Rules.{rules}
 use Rattle.filling.proofs.fill_band.Goals as goal
 
 pub returns-in-Closed : goal.returns-in-Closed

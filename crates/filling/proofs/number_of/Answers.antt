@@ -1,5 +1,4 @@
 use Rattle.filling.proofs.Finding.{found_at, found_none}
-use borrow.Author.Rules.{rules}
 use Rattle.filling.proofs.number_of.Goals as goal
 
 pub returns-in-At : goal.returns-in-At

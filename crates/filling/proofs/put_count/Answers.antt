@@ -1,6 +1,5 @@
 use mathlib.Core.Path.{sym}
 use lib.Seq.{set_out}
-use borrow.Author.Rules.{rules}
 use Rattle.filling.proofs.put_count.Goals as goal
 
 pub returns-else-i-counts : goal.returns-else-i-counts

@@ -1,6 +1,6 @@
 -- 02, N2: "For a whole sphere or torus the step count of every pair of positions is then zero." The sides that the seam joins cancel, as the walls of a
 -- strip do; the other two are one ring read forward and backward on a torus, and at a pole a ring of one position on a sphere.
-use Prim.Native.Nat.{ℕ, suc, suc-le-suc, ◌^◌, ◌≤◌, ◌<◌}
+use Prim.Native.Nat.{ℕ, suc, suc-le-suc, ◌^◌, ◌<◌}
 use mathlib.Core.Path.{◌≡◌, refl, sym, ap, ◌∙◌}
 use mathlib.Core.Bool.{Bool, true, cond}
 use mathlib.Core.List.{List, [], ◌∷◌, ◌++◌, map, reverse, drop_last, append_assoc, map-append, map-map, reverse-cons, Forall₂}

@@ -1,10 +1,6 @@
 use Prim.Native.Nat.{◌-◌}
-use mathlib.Core.Path.{refl}
-use native.Mathlib.Omega.{arith}
-use lib.Ieee.{nan}
-use borrow.Author.Rules.{rules}
 use Rattle.loop_records.specs.declared.LoopRecord.{LoopRecord}
-use Rattle.loop_records.proofs.Columns.{Reading, no_reading, reading, reading_turn, reading_end}
+use Rattle.loop_records.proofs.Columns.{Reading}
 use Rattle.loop_records.proofs.areas_of.Given as goal
 
 abbrev pub invariant-loop-i : goal.invariant-loop-i

@@ -1,11 +1,9 @@
-use Prim.Native.Nat.{◌-◌}
 use lib.IntN.{pos}
 use native.Mathlib.Omega.{arith}
 use mir.Facts.{to_z-of_z}
 use mir.Syntax.{w32}
-use borrow.Author.Rules.{rules, sfits_of}
-use Rattle.loop_records.specs.declared.LoopRecord.{LoopRecord}
-use Rattle.loop_records.proofs.Columns.{Reading, no_reading, reading, reading_turn, reading_end}
+use borrow.Author.Rules.{rules}
+use Rattle.loop_records.proofs.Columns.{no_reading, reading, reading_turn, reading_end}
 use Rattle.loop_records.proofs.wraps_of.Goals as goal
 
 pub returns-then-wraps-k : goal.returns-then-wraps-k

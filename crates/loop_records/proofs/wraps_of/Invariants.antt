@@ -1,10 +1,6 @@
 use Prim.Native.Nat.{◌-◌}
-use lib.IntN.{pos}
-use native.Mathlib.Omega.{arith}
-use mir.Facts.{to_z-of_z}
-use borrow.Author.Rules.{rules, sfits_of}
 use Rattle.loop_records.specs.declared.LoopRecord.{LoopRecord}
-use Rattle.loop_records.proofs.Columns.{Reading, no_reading, reading, reading_turn, reading_end}
+use Rattle.loop_records.proofs.Columns.{Reading}
 use Rattle.loop_records.proofs.wraps_of.Given as goal
 
 abbrev pub invariant-loop-i : goal.invariant-loop-i

@@ -1,4 +1,3 @@
-use borrow.Author.Rules.{rules}
 use Rattle.records.proofs.count_at.Goals as goal
 
 pub returns : goal.returns

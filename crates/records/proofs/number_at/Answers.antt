@@ -1,5 +1,4 @@
 use native.Mathlib.Omega.{arith}
-use borrow.Author.Rules.{rules}
 use Rattle.records.proofs.Numbers as numbers
 use Rattle.records.proofs.number_at.Goals as goal
 

@@ -2,7 +2,6 @@ use mathlib.Core.Path.{◌≡◌, refl, sym, ap, ◌∙◌}
 use Prim.Native.Nat.{ℕ}
 use native.Mathlib.Omega.{arith}
 use lib.Ieee.{Float, nan, inf, fin, binary64, of_bits, of_fields, odd, div}
-use borrow.Author.Rules.{rules}
 use Rattle.numbers.specs.declared.bits.Real.TheVariants.{Value, NotANumber}
 use Rattle.numbers.specs.Bits.{value_of, real_of}
 use Rattle.records.specs.Bytes.{real_at}

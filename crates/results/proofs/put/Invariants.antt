@@ -1,4 +1,3 @@
-use native.Mathlib.Omega.{arith}
 use Prim.Native.Nat.{◌-◌}
 use Rattle.results.proofs.Stores as stores
 use Rattle.results.proofs.put.Given as goal

@@ -1,5 +1,4 @@
-use Prim.Native.Nat.{◌-◌, ◌*◌}
-use mathlib.Core.Path.{◌≡◌, refl}
+use mathlib.Core.Path.{refl}
 use native.Mathlib.Omega.{arith}
 use lib.ListN.{length-take, length-drop}
 use Rattle.results.proofs.Rows as rows

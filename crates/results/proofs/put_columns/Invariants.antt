@@ -1,7 +1,5 @@
 use Prim.Native.Nat.{◌-◌, ◌*◌}
-use mathlib.Core.Path.{◌≡◌, refl}
-use native.Mathlib.Omega.{arith}
-use lib.ListN.{length-take, length-drop}
+use mathlib.Core.Path.{◌≡◌}
 use Rattle.results.proofs.Rows as rows
 use Rattle.results.proofs.put_columns.Given as goal
 

@@ -1,8 +1,5 @@
 use native.Mathlib.Omega.{arith}
-use Prim.Native.Nat.{◌-◌, ◌≤◌}
-use lib.ListN.{length}
 use Rattle.results.proofs.Rows as rows
-use borrow.Author.Rules.{rules}
 use Rattle.results.proofs.put_counts.Goals as goal
 
 pub loop-i-init : goal.loop-i-init

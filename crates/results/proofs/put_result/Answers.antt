@@ -1,7 +1,6 @@
 use native.Mathlib.Omega.{arith}
 use lib.ListN.{length-take}
 use Rattle.results.proofs.Whole as whole
-use borrow.Author.Rules.{rules}
 use Rattle.results.proofs.put_result.Goals as goal
 
 pub slice_bounds-put_reals-end : goal.slice_bounds-put_reals-end

@@ -1,7 +1,5 @@
 use native.Mathlib.Omega.{arith}
-use mathlib.Core.Path.{◌≡◌, refl}
-use Prim.Native.Nat.{◌+◌, ◌-◌}
-use lib.ListN.{length}
+use mathlib.Core.Path.{refl}
 use Rattle.results.proofs.Sizes as sizes
 use Rattle.results.proofs.result_size.Goals as goal
 

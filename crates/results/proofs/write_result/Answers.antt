@@ -1,5 +1,4 @@
 use Rattle.results.proofs.Whole as whole
-use borrow.Author.Rules.{rules}
 use Rattle.results.proofs.write_result.Goals as goal
 
 pub returns-in_default : goal.returns-in_default

@@ -1,5 +1,4 @@
 use Rattle.rings.proofs.ByU.{later-put}
-use borrow.Author.Rules.{rules}
 use Rattle.starts.proofs.later_for.Goals as goal
 
 pub returns : goal.returns

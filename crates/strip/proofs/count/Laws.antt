@@ -1,5 +1,5 @@
 -- The count of a strip, on plain numbers.
-use Prim.Native.Nat.{ℕ, ◌+◌, ◌-◌}
+use Prim.Native.Nat.{ℕ, ◌+◌}
 use mathlib.Core.Path.{◌≡◌}
 use native.Mathlib.Omega.{arith}
 use Rattle.strip.specs.Count.{count_of, capped}

@@ -1,5 +1,5 @@
 -- Which whole number a count of segments is: the quotient taken up, exactly, and how large it can be.
-use Rattle.std.proofs.Common.{ℕ, ◌-◌, ◌*◌, ◌^◌, ◌≤◌, max, refl, arith, lit≤}
+use Rattle.std.proofs.Common.{ℕ, ◌*◌, ◌≤◌, max, refl, arith, lit≤}
 use lib.Ieee.{Float, of_bits}
 use Rattle.numbers.specs.Constants.{10^-3}
 use Rattle.numbers.specs.Order.{abs_of, min_of}

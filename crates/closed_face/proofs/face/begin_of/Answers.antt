@@ -1,7 +1,5 @@
-use borrow.Author.Rules.{rules}
-use Prim.Native.Nat.{◌-◌}
 use native.Mathlib.Omega.{arith}
-use Rattle.closed_face.proofs.Loops.{Beginning, beginning, beginning_turn, beginning_end}
+use Rattle.closed_face.proofs.Loops.{beginning, beginning_turn, beginning_end}
 use Rattle.closed_face.proofs.face.begin_of.Goals as goal
 
 pub loop-i-init : goal.loop-i-init

@@ -1,5 +1,4 @@
 use Rattle.closed_face.proofs.Result.{steps}
-use borrow.Author.Rules.{rules}
 use Rattle.closed_face.proofs.face.closed_face.Goals as goal
 
 pub returns : goal.returns

@@ -1,5 +1,4 @@
 use Rattle.closed_face.proofs.Loops.{first_is}
-use borrow.Author.Rules.{rules}
 use Rattle.closed_face.proofs.face.loop_first.Goals as goal
 
 pub returns : goal.returns

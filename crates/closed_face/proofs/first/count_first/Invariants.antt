@@ -1,6 +1,4 @@
 use Prim.Native.Nat.{◌-◌}
-use native.Mathlib.Omega.{arith}
-use borrow.Author.Rules.{rules}
 use lib.ListN.{length}
 use Rattle.closed_face.proofs.first.Laws as laws
 use Rattle.closed_face.proofs.first.count_first.Given as goal

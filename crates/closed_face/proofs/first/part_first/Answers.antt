@@ -1,4 +1,3 @@
-use borrow.Author.Rules.{rules}
 use Rattle.closed_face.proofs.first.Laws as laws
 use Rattle.closed_face.proofs.first.part_first.Goals as goal
 

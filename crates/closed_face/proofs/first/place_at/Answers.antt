@@ -1,4 +1,3 @@
-use native.Mathlib.Omega.{arith}
 use Rattle.closed_face.proofs.first.Laws as laws
 use Rattle.closed_face.proofs.first.place_at.Goals as goal
 

@@ -1,7 +1,6 @@
 use Rattle.closed_region.proofs.BoxTable.{box_at_lem, box_past}
 use lib.Ieee.{div, of_bits}
 use mathlib.Core.Path.{refl, sym}
-use borrow.Author.Rules.{rules}
 use Rattle.closed_region.proofs.box_table.box_at.Goals as goal
 
 pub returns-then-i-boxes : goal.returns-then-i-boxes

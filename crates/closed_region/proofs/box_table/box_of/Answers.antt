@@ -1,7 +1,4 @@
-use borrow.Author.Rules.{rules}
-use Prim.Native.Nat.{◌-◌}
-use native.Mathlib.Omega.{arith}
-use Rattle.closed_region.proofs.BoxTable.{Growing, growing, growing_turn, growing_end}
+use Rattle.closed_region.proofs.BoxTable.{growing, growing_turn, growing_end}
 use Rattle.closed_region.proofs.box_table.box_of.Goals as goal
 
 pub loop-i-init : goal.loop-i-init

@@ -1,7 +1,5 @@
-use borrow.Author.Rules.{rules}
 use Prim.Native.Nat.{◌-◌}
-use native.Mathlib.Omega.{arith}
-use Rattle.closed_region.proofs.BoxTable.{Growing, growing, growing_turn, growing_end}
+use Rattle.closed_region.proofs.BoxTable.{Growing}
 use Rattle.closed_region.proofs.box_table.box_of.Given as goal
 
 abbrev pub invariant-loop-i : goal.invariant-loop-i

@@ -2,7 +2,6 @@ use Rattle.tables.proofs.Rows.{length-rows, rows_part}
 use Rattle.closed_region.specs.Loops.{box_in}
 use mathlib.Core.Path.{ap, ◌∙◌}
 use native.Mathlib.Omega.{arith}
-use borrow.Author.Rules.{rules}
 use Rattle.closed_region.proofs.box_table.box_of_part.Goals as goal
 
 pub overflow_mul-a : goal.overflow_mul-a

@@ -1,8 +1,6 @@
 use borrow.Author.Rules.{rules}
-use Prim.Native.Nat.{◌-◌}
-use lib.ListN.{length}
 use native.Mathlib.Omega.{arith}
-use Rattle.closed_region.proofs.BoxTable.{Boxing, boxing, boxing_turn, boxing_end, boxing_none}
+use Rattle.closed_region.proofs.BoxTable.{boxing, boxing_turn, boxing_end, boxing_none}
 use mathlib.Core.Path.{refl}
 use Rattle.closed_region.proofs.box_table.boxes_into.Goals as goal
 

@@ -1,7 +1,6 @@
 use Rattle.closed_region.proofs.BoxTable.{boxes_stored, stored_past}
 use lib.ListN.{length-set}
 use native.Mathlib.Omega.{arith}
-use borrow.Author.Rules.{rules}
 use Rattle.closed_region.proofs.box_table.put_box.Goals as goal
 
 pub bounds-boxes-p-then-i-boxes : goal.bounds-boxes-p-then-i-boxes

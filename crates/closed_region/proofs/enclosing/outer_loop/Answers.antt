@@ -1,5 +1,4 @@
 use Rattle.closed_region.specs.Outer.{outer_of}
-use borrow.Author.Rules.{rules}
 use Rattle.closed_region.proofs.enclosing.outer_loop.Goals as goal
 
 pub returns : goal.returns

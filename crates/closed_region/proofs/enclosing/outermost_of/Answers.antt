@@ -1,7 +1,4 @@
-use Prim.Native.Nat.{◌-◌}
-use native.Mathlib.Omega.{arith}
 use borrow.Author.Rules.{rules}
-use Rattle.closed_region.specs.Loops.{boxes_in}
 use Rattle.closed_region.proofs.outer.Laws as laws
 use Rattle.closed_region.proofs.enclosing.outermost_of.Goals as goal
 

@@ -1,9 +1,4 @@
-use Prim.Native.Nat.{◌-◌}
-use native.Mathlib.Omega.{arith}
 use borrow.Author.Rules.{rules}
-use lib.ListN.{length}
-use Rattle.closed_region.specs.Loops.{boxes_in}
-use Rattle.closed_region.specs.ByOutermost.{encloses_outermost_at}
 use Rattle.closed_region.proofs.outer.Laws as laws
 use Rattle.closed_region.proofs.enclosing.the_one_against.Goals as goal
 

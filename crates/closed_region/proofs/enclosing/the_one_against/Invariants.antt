@@ -1,6 +1,4 @@
 use Prim.Native.Nat.{◌-◌}
-use native.Mathlib.Omega.{arith}
-use borrow.Author.Rules.{rules}
 use lib.ListN.{length}
 use Rattle.closed_region.specs.Loops.{boxes_in}
 use Rattle.closed_region.specs.ByOutermost.{encloses_outermost_at}

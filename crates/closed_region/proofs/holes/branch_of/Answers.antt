@@ -1,6 +1,5 @@
 use Rattle.tables.specs.Rows.{rows}
 use Rattle.closed_region.proofs.MovedHoles.{branch_is}
-use borrow.Author.Rules.{rules}
 use Rattle.closed_region.proofs.holes.branch_of.Goals as goal
 
 pub returns : goal.returns

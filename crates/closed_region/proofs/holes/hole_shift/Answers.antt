@@ -1,5 +1,4 @@
 use Rattle.closed_region.proofs.MovedHoles.{shift_answer, open_answer}
-use borrow.Author.Rules.{rules}
 use Rattle.closed_region.proofs.holes.hole_shift.Goals as goal
 
 pub returns-then-period : goal.returns-then-period

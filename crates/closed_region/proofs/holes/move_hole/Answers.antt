@@ -1,6 +1,5 @@
 use Rattle.tables.specs.Rows.{rows}
 use Rattle.closed_region.proofs.MovedHoles.{moved-hole}
-use borrow.Author.Rules.{rules}
 use Rattle.closed_region.proofs.holes.move_hole.Goals as goal
 
 pub returns : goal.returns

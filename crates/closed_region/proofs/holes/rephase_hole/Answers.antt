@@ -1,5 +1,4 @@
 use Rattle.closed_region.proofs.MovedHoles.{hole_stays, hole_moves}
-use borrow.Author.Rules.{rules}
 use Rattle.closed_region.proofs.holes.rephase_hole.Goals as goal
 
 pub returns-then-stays : goal.returns-then-stays

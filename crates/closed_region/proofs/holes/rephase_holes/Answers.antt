@@ -1,8 +1,5 @@
 use borrow.Author.Rules.{rules}
-use Prim.Native.Nat.{◌-◌}
-use lib.ListN.{length}
-use native.Mathlib.Omega.{arith}
-use Rattle.closed_region.proofs.MovedHoles.{Rephasing, rephasing, still, rephasing_turn, no_outer, no_areas, holes_left}
+use Rattle.closed_region.proofs.MovedHoles.{rephasing, still, rephasing_turn, no_outer, no_areas, holes_left}
 use Rattle.closed_region.proofs.holes.rephase_holes.Goals as goal
 
 pub returns-then-counts-outer : goal.returns-then-counts-outer

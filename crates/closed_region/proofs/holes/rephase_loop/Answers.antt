@@ -1,5 +1,4 @@
 use Rattle.closed_region.proofs.MovedHoles.{loop_stays, loop_moves}
-use borrow.Author.Rules.{rules}
 use Rattle.closed_region.proofs.holes.rephase_loop.Goals as goal
 
 pub returns-then-k-outer : goal.returns-then-k-outer

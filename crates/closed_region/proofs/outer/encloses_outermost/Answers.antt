@@ -1,4 +1,3 @@
-use borrow.Author.Rules.{rules}
 use Rattle.closed_region.specs.ByOutermost.{encloses_outermost}
 use Rattle.closed_region.proofs.outer.encloses_outermost.Goals as goal
 

@@ -1,4 +1,3 @@
-use borrow.Author.Rules.{rules}
 use Rattle.closed_region.proofs.outer.hull.Goals as goal
 
 pub returns : goal.returns

@@ -1,7 +1,4 @@
-use borrow.Author.Tests.{not-true, not-false}
 use Prim.Native.Nat.{◌-◌}
-use native.Mathlib.Omega.{arith}
-use borrow.Author.Rules.{rules}
 use lib.ListN.{length}
 use Rattle.closed_region.proofs.outer.Laws as laws
 use Rattle.closed_region.proofs.outer.last_largest.Given as goal

@@ -1,4 +1,3 @@
-use borrow.Author.Rules.{rules}
 use Rattle.closed_region.specs.ByOutermost.{one_if_unenclosable}
 use Rattle.closed_region.proofs.outer.one_if_unenclosable.Goals as goal
 

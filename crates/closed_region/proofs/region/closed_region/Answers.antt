@@ -1,5 +1,4 @@
 use Rattle.closed_region.proofs.OuterAmong.{by_area, by_boxes}
-use borrow.Author.Rules.{rules}
 use Rattle.closed_region.proofs.region.closed_region.Goals as goal
 
 pub returns-then-box_count-n : goal.returns-then-box_count-n

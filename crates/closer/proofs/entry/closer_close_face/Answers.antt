@@ -1,7 +1,6 @@
 use lib.ListN.{length}
 use Rattle.call.specs.Judge.{judge}
 use Rattle.closer.proofs.Call.{paired}
-use borrow.Author.Rules.{rules}
 use Rattle.closer.proofs.entry.closer_close_face.Goals as goal
 
 pub returns : goal.returns

@@ -1,5 +1,4 @@
 use mathlib.Core.Path.{sym}
-use borrow.Author.Rules.{rules}
 use Rattle.compared.proofs.of_closed_region.compared_rephase_holes.Goals as goal
 
 pub returns : goal.returns

@@ -1,5 +1,4 @@
 use mathlib.Core.Path.{sym}
-use borrow.Author.Rules.{rules}
 use Rattle.compared.proofs.of_full_domain.compared_full_domain_count.Goals as goal
 
 pub returns : goal.returns

@@ -5,7 +5,7 @@ use Rattle.surfaces.specs.declared.surface.Period.{Period}
 use Rattle.tables.specs.Corners.{us}
 use Rattle.tables.specs.Rows.{rows}
 use Rattle.loops.specs.Wrap.{net_wrap}
-use borrow.Author.Rules.{rules, sfits_of}
+use borrow.Author.Rules.{sfits_of}
 use Rattle.compared.proofs.of_loops.compared_net_wrap.Goals as goal
 
 pub returns : goal.returns

@@ -1,4 +1,3 @@
-use borrow.Author.Rules.{rules}
 use Rattle.compared.proofs.of_numbers.compared_frame_new.Goals as goal
 
 pub returns : goal.returns

@@ -1,6 +1,5 @@
 use mathlib.Core.Path.{ap, ◌∙◌}
 use Rattle.compared.specs.Records.{read_of}
-use borrow.Author.Rules.{rules}
 use Rattle.compared.proofs.of_records.compared_read_corners.Goals as goal
 
 pub returns : goal.returns

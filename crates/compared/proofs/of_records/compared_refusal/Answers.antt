@@ -2,7 +2,6 @@ use mathlib.Core.Path.{ap, ◌∙◌}
 use Rattle.records.specs.declared.limits.Limits.{Limits}
 use Rattle.records.specs.Answers.{number_of}
 use Rattle.records.specs.Refusals.{record_conditions, verdict}
-use borrow.Author.Rules.{rules}
 use Rattle.compared.proofs.of_records.compared_refusal.Goals as goal
 
 pub returns : goal.returns

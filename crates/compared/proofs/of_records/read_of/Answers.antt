@@ -1,6 +1,5 @@
 use mathlib.Core.Path.{sym, ap}
 use Rattle.compared.specs.Records.{read_of}
-use borrow.Author.Rules.{rules}
 use Rattle.compared.proofs.of_records.read_of.Goals as goal
 
 pub returns-in-Count : goal.returns-in-Count

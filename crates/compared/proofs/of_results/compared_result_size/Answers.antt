@@ -1,6 +1,5 @@
 use mathlib.Core.Path.{ap, ◌∙◌}
 use Rattle.compared.specs.Records.{room_of}
-use borrow.Author.Rules.{rules}
 use Rattle.compared.proofs.of_results.compared_result_size.Goals as goal
 
 pub returns : goal.returns

@@ -1,6 +1,5 @@
 use mathlib.Core.Path.{sym, ap, ◌∙◌}
 use Rattle.compared.specs.Records.{written_of}
-use borrow.Author.Rules.{rules}
 use Rattle.compared.proofs.of_results.compared_write_result.Goals as goal
 
 pub returns : goal.returns

@@ -1,6 +1,5 @@
 use mathlib.Core.Path.{sym, ap}
 use Rattle.compared.specs.Records.{room_of}
-use borrow.Author.Rules.{rules}
 use Rattle.compared.proofs.of_results.room_of.Goals as goal
 
 pub returns-in-Takes : goal.returns-in-Takes

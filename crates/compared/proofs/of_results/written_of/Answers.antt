@@ -1,6 +1,5 @@
 use mathlib.Core.Path.{sym, ap}
 use Rattle.compared.specs.Records.{written_of}
-use borrow.Author.Rules.{rules}
 use Rattle.compared.proofs.of_results.written_of.Goals as goal
 
 pub returns-in-Length : goal.returns-in-Length

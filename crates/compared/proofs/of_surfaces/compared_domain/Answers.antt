@@ -1,7 +1,6 @@
 use mathlib.Core.Path.{ap, ◌∙◌}
 use Rattle.surfaces.specs.Domains.{domain_of}
 use Rattle.compared.specs.Surfaces.{ends_of}
-use borrow.Author.Rules.{rules}
 use Rattle.compared.proofs.of_surfaces.compared_domain.Goals as goal
 
 pub returns : goal.returns

@@ -1,4 +1,3 @@
-use borrow.Author.Rules.{rules}
 use Rattle.compared.proofs.of_surfaces.compared_v_steps.Goals as goal
 
 pub returns : goal.returns

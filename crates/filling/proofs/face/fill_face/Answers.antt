@@ -2,7 +2,6 @@ use Rattle.records.specs.Limits.{version1}
 use Rattle.records.specs.Refusals.{record_conditions}
 use Rattle.call.specs.Later.{later_conditions}
 use Rattle.filling.proofs.Stages.{refused_as, filled_as, accepted_as}
-use borrow.Author.Rules.{rules}
 use Rattle.filling.proofs.face.fill_face.Goals as goal
 
 pub returns-in-Refuses : goal.returns-in-Refuses

@@ -1,5 +1,4 @@
 use Rattle.filling.proofs.Stages.{no_loops, some_loops, frame_in_lem, options_in_lem, sense_in_lem, whole_filled, none-wraps, closed_filled, band-wraps}
-use borrow.Author.Rules.{rules}
 use Rattle.filling.proofs.face.fill_path.Goals as goal
 
 pub returns-then-given-eq0 : goal.returns-then-given-eq0

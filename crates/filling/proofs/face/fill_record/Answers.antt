@@ -6,7 +6,6 @@ use Rattle.call.specs.Later.{ring_conditions, strip_conditions}
 use Rattle.filling.proofs.Reading.{counts_told, counts_many, reals_told, read_as}
 use Rattle.filling.proofs.Refused.{rings_judged}
 use Rattle.filling.proofs.Stages.{held, surface_in_lem, records_in, wraps_in_lem, areas_in, refused_as, passed_as, filled_as}
-use borrow.Author.Rules.{rules}
 use Rattle.filling.proofs.face.fill_record.Goals as goal
 
 pub overflow_mul-e : goal.overflow_mul-e

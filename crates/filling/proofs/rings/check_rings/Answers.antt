@@ -1,5 +1,4 @@
 use Rattle.filling.proofs.Refused.{refused_8, refused_9, refused_10, refused_11, rings_pass}
-use borrow.Author.Rules.{rules}
 use Rattle.filling.proofs.rings.check_rings.Goals as goal
 
 pub returns-in-At : goal.returns-in-At

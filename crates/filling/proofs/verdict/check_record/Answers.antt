@@ -1,7 +1,6 @@
 use mathlib.Core.Path.{ap, ◌∙◌}
 use Rattle.records.specs.declared.limits.Limits.{Limits}
 use Rattle.records.specs.Refusals.{record_conditions, verdict}
-use borrow.Author.Rules.{rules}
 use Rattle.filling.proofs.verdict.check_record.Goals as goal
 
 pub returns : goal.returns

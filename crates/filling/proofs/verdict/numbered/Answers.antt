@@ -1,7 +1,6 @@
 use mathlib.Core.Path.{sym, ap, ◌∙◌}
 use Rattle.records.specs.Answers.{verdict_of as found_by}
 use Rattle.filling.specs.Stages.{verdict_of}
-use borrow.Author.Rules.{rules}
 use Rattle.filling.proofs.verdict.numbered.Goals as goal
 
 pub returns-in-WrongHeader : goal.returns-in-WrongHeader

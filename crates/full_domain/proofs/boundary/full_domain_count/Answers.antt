@@ -1,7 +1,6 @@
 use mathlib.Core.Path.{refl, sym, ◌∙◌}
 use mathlib.Core.Bool.{true≢false}
 use Rattle.full_domain.proofs.boundary.Sides as laws
-use borrow.Author.Rules.{rules}
 use Rattle.full_domain.proofs.boundary.full_domain_count.Goals as goal
 
 pub returns-then-is_whole : goal.returns-then-is_whole

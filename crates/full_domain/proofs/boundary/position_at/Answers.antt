@@ -1,5 +1,4 @@
 use Rattle.full_domain.specs.Boundary.{position_of}
-use borrow.Author.Rules.{rules}
 use Rattle.full_domain.proofs.boundary.position_at.Goals as goal
 
 pub returns : goal.returns

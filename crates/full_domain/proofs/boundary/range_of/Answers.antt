@@ -1,4 +1,3 @@
-use borrow.Author.Rules.{rules}
 use Rattle.full_domain.proofs.boundary.range_of.Goals as goal
 
 pub returns-in-U : goal.returns-in-U

@@ -1,5 +1,4 @@
 use Rattle.full_domain.proofs.boundary.Sides.{counted}
-use borrow.Author.Rules.{rules}
 use Rattle.full_domain.proofs.boundary.side_count.Goals as goal
 
 pub returns : goal.returns

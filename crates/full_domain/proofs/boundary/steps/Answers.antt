@@ -1,5 +1,4 @@
 use Rattle.full_domain.specs.Boundary.{steps_of}
-use borrow.Author.Rules.{rules}
 use Rattle.full_domain.proofs.boundary.steps.Goals as goal
 
 pub returns : goal.returns

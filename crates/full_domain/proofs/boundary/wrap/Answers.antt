@@ -1,5 +1,4 @@
 use Rattle.full_domain.specs.Boundary.{wrap_of}
-use borrow.Author.Rules.{rules}
 use Rattle.full_domain.proofs.boundary.wrap.Goals as goal
 
 pub returns-in-None : goal.returns-in-None

@@ -1,5 +1,4 @@
 use Rattle.full_domain.proofs.boundary.Sides.{laid}
-use borrow.Author.Rules.{rules}
 use Rattle.full_domain.proofs.boundary.write_rungs.Goals as goal
 
 pub returns : goal.returns

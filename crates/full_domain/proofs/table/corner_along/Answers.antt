@@ -1,4 +1,3 @@
-use borrow.Author.Rules.{rules}
 use Rattle.full_domain.proofs.table.corner_along.Goals as goal
 
 pub returns : goal.returns

@@ -4,7 +4,6 @@ use borrow.Author.Tests.{not-true, not-false}
 use mathlib.Core.Path.{sym, ◌∙◌}
 use Rattle.full_domain.proofs.WholeRows.{no_whole, no_room, boundary_left}
 use Rattle.full_domain.proofs.boundary.Sides.{count_whole}
-use borrow.Author.Rules.{rules}
 use Rattle.full_domain.proofs.table.full_domain_loop.Goals as goal
 
 pub returns-then-not-is_whole : goal.returns-then-not-is_whole

@@ -3,7 +3,6 @@ use native.Mathlib.Omega.{arith}
 use Rattle.surfaces.specs.declared.steps.Axis.TheVariants.{U, «V»}
 use Rattle.full_domain.proofs.WholeRows.{sides_ready, boundary_put}
 use Rattle.full_domain.proofs.boundary.Sides.{few}
-use borrow.Author.Rules.{rules}
 use Rattle.full_domain.proofs.table.put_boundary.Goals as goal
 
 pub overflow_add-su : goal.overflow_add-su

@@ -1,7 +1,4 @@
-use Prim.Native.Nat.{◌-◌}
-use lib.ListN.{length}
-use native.Mathlib.Omega.{arith}
-use Rattle.full_domain.proofs.WholeRows.{Putting, putting, putting_turn, putting_end}
+use Rattle.full_domain.proofs.WholeRows.{putting, putting_turn, putting_end}
 use borrow.Author.Rules.{rules}
 use Rattle.full_domain.proofs.table.put_side.Goals as goal
 

@@ -1,8 +1,6 @@
 use Prim.Native.Nat.{◌-◌}
 use lib.ListN.{length}
-use native.Mathlib.Omega.{arith}
-use Rattle.full_domain.proofs.WholeRows.{Putting, putting, putting_turn, putting_end}
-use borrow.Author.Rules.{rules}
+use Rattle.full_domain.proofs.WholeRows.{Putting}
 use Rattle.full_domain.proofs.table.put_side.Given as goal
 
 abbrev pub invariant-loop-i : goal.invariant-loop-i

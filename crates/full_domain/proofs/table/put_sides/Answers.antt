@@ -1,7 +1,6 @@
 use mathlib.Core.Path.{refl}
 use native.Mathlib.Omega.{arith}
 use Rattle.full_domain.proofs.WholeRows.{sides-put}
-use borrow.Author.Rules.{rules}
 use Rattle.full_domain.proofs.table.put_sides.Goals as goal
 
 pub put_side-requires-4 : goal.put_side-requires-4

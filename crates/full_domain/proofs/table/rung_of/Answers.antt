@@ -1,5 +1,4 @@
 use Rattle.full_domain.proofs.WholeRows.{walked-back, walked_on}
-use borrow.Author.Rules.{rules}
 use Rattle.full_domain.proofs.table.rung_of.Goals as goal
 
 pub returns-then-back : goal.returns-then-back

@@ -1,9 +1,7 @@
 use mathlib.Core.Bool.{not}
 use Rattle.std.proofs.Common.{ap}
-use borrow.Author.Rules.{rules}
-use Prim.Native.Nat.{◌-◌}
 use native.Mathlib.Omega.{arith}
-use Rattle.holes.proofs.picked.Laws.{Counting, counting, counting_ring, counting_hole, counting_end}
+use Rattle.holes.proofs.picked.Laws.{counting, counting_ring, counting_hole, counting_end}
 use Rattle.holes.proofs.picked.count_holes.Goals as goal
 
 pub loop-i-init : goal.loop-i-init

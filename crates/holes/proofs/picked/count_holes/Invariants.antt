@@ -1,7 +1,5 @@
-use borrow.Author.Rules.{rules}
 use Prim.Native.Nat.{◌-◌}
-use native.Mathlib.Omega.{arith}
-use Rattle.holes.proofs.picked.Laws.{Counting, counting, counting_ring, counting_hole, counting_end}
+use Rattle.holes.proofs.picked.Laws.{Counting}
 use Rattle.holes.proofs.picked.count_holes.Given as goal
 
 abbrev pub invariant-loop-i : goal.invariant-loop-i

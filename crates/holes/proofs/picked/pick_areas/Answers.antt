@@ -1,12 +1,9 @@
 use mathlib.Core.Bool.{not}
 use Rattle.std.proofs.Common.{ap}
-use borrow.Author.Rules.{rules}
 use lib.Ieee.{nan}
-use Prim.Native.Nat.{◌-◌}
 use mathlib.Core.Path.{refl}
 use native.Mathlib.Omega.{arith}
-use lib.ListN.{length}
-use Rattle.holes.proofs.picked.Laws.{Picking, picking, picking_none, picking_ring, picking_hole, picking_room, picking_end}
+use Rattle.holes.proofs.picked.Laws.{picking, picking_none, picking_ring, picking_hole, picking_room, picking_end}
 use Rattle.holes.proofs.picked.pick_areas.Goals as goal
 
 pub returns-then-not-has_room : goal.returns-then-not-has_room

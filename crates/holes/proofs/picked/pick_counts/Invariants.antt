@@ -1,9 +1,6 @@
-use borrow.Author.Rules.{rules}
 use Prim.Native.Nat.{◌-◌}
-use mathlib.Core.Path.{refl}
-use native.Mathlib.Omega.{arith}
 use lib.ListN.{length}
-use Rattle.holes.proofs.picked.Laws.{Picking, picking, picking_none, picking_ring, picking_hole, picking_room, picking_end}
+use Rattle.holes.proofs.picked.Laws.{Picking}
 use Rattle.holes.proofs.picked.pick_counts.Given as goal
 
 abbrev pub invariant-loop-i : goal.invariant-loop-i

@@ -1,4 +1,3 @@
-use borrow.Author.Rules.{rules}
 use Rattle.holes.proofs.rows.behind.Goals as goal
 
 pub returns : goal.returns

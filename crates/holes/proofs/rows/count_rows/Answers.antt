@@ -1,10 +1,4 @@
-use borrow.Author.Rules.{rules}
-use Prim.Native.Nat.{◌-◌, ◌*◌, ◌^◌, ◌<◌}
-use mathlib.Core.Path.{◌≡◌}
-use native.Mathlib.Omega.{arith}
-use lib.ListN.{length}
-use Rattle.tables.specs.Rows.{rows}
-use Rattle.holes.proofs.rows.Laws.{Counting, counting, counting_room, counting_turn, counting_end}
+use Rattle.holes.proofs.rows.Laws.{counting, counting_room, counting_turn, counting_end}
 use Rattle.holes.proofs.rows.count_rows.Goals as goal
 
 pub loop-i-init : goal.loop-i-init

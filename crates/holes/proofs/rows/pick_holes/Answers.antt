@@ -1,12 +1,7 @@
 use mathlib.Core.Bool.{not}
 use Rattle.std.proofs.Common.{ap}
-use borrow.Author.Rules.{rules}
-use Prim.Native.Nat.{◌-◌, ◌*◌, ◌^◌, ◌<◌}
-use mathlib.Core.Path.{◌≡◌, refl, ◌∙◌}
-use native.Mathlib.Omega.{arith}
-use lib.ListN.{length}
-use Rattle.tables.specs.Rows.{rows}
-use Rattle.holes.proofs.rows.Laws.{Picking, picking, picking_none, picking_forth, picking_room, picking_turn, picking_end}
+use mathlib.Core.Path.{refl, ◌∙◌}
+use Rattle.holes.proofs.rows.Laws.{picking, picking_none, picking_forth, picking_room, picking_turn, picking_end}
 use Rattle.holes.proofs.rows.pick_holes.Goals as goal
 
 pub returns-then-not-has_room : goal.returns-then-not-has_room

@@ -1,10 +1,8 @@
-use borrow.Author.Rules.{rules}
 use Prim.Native.Nat.{◌-◌, ◌*◌, ◌^◌, ◌<◌}
-use mathlib.Core.Path.{◌≡◌, refl, ◌∙◌}
-use native.Mathlib.Omega.{arith}
+use mathlib.Core.Path.{◌≡◌}
 use lib.ListN.{length}
 use Rattle.tables.specs.Rows.{rows}
-use Rattle.holes.proofs.rows.Laws.{Picking, picking, picking_none, picking_forth, picking_room, picking_turn, picking_end}
+use Rattle.holes.proofs.rows.Laws.{Picking}
 use Rattle.holes.proofs.rows.pick_holes.Given as goal
 
 abbrev pub invariant-loop-i : goal.invariant-loop-i

@@ -1,7 +1,6 @@
 use native.Mathlib.Omega.{arith}
 use Rattle.tables.proofs.Rows.{length-rows}
 use Rattle.holes.proofs.rows.Laws.{one-ring, one-hole}
-use borrow.Author.Rules.{rules}
 use Rattle.holes.proofs.rows.pick_one.Goals as goal
 
 pub returns-then-ring : goal.returns-then-ring

@@ -1,8 +1,5 @@
-use borrow.Author.Rules.{rules}
-use Prim.Native.Nat.{◌-◌}
-use lib.ListN.{length}
 use native.Mathlib.Omega.{arith}
-use Rattle.laying.proofs.EachHole.{Crossing, crossing, crossing_found, crossing_turn, crossing_end}
+use Rattle.laying.proofs.EachHole.{crossing, crossing_found, crossing_turn, crossing_end}
 use Rattle.laying.proofs.holes.any_straddles.Goals as goal
 
 pub loop-i-init : goal.loop-i-init

@@ -1,8 +1,6 @@
-use borrow.Author.Rules.{rules}
 use Prim.Native.Nat.{◌-◌}
 use lib.ListN.{length}
-use native.Mathlib.Omega.{arith}
-use Rattle.laying.proofs.EachHole.{Crossing, crossing, crossing_found, crossing_turn, crossing_end}
+use Rattle.laying.proofs.EachHole.{Crossing}
 use Rattle.laying.proofs.holes.any_straddles.Given as goal
 
 abbrev pub invariant-loop-i : goal.invariant-loop-i

@@ -1,5 +1,4 @@
 use Rattle.seam.proofs.EachHole.{end-upper, end-lower}
-use borrow.Author.Rules.{rules}
 use Rattle.laying.proofs.holes.end_of.Goals as goal
 
 pub returns-then-upper : goal.returns-then-upper

@@ -1,9 +1,6 @@
-use borrow.Author.Rules.{rules}
-use Prim.Native.Nat.{◌-◌}
-use lib.ListN.{length}
 use native.Mathlib.Omega.{arith}
 use Rattle.seam.proofs.EachHole.{no_ending}
-use Rattle.laying.proofs.EachHole.{Bounding, bounding, bounding_turn, bounding_end}
+use Rattle.laying.proofs.EachHole.{bounding, bounding_turn, bounding_end}
 use Rattle.laying.proofs.holes.ends_into.Goals as goal
 
 pub returns-then-out-counts : goal.returns-then-out-counts

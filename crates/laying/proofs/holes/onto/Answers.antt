@@ -1,5 +1,4 @@
 use Rattle.laying.proofs.EachHole.{onto_is}
-use borrow.Author.Rules.{rules}
 use Rattle.laying.proofs.holes.onto.Goals as goal
 
 pub returns : goal.returns

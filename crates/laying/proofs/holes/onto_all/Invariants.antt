@@ -1,8 +1,6 @@
-use borrow.Author.Rules.{rules}
 use Prim.Native.Nat.{◌-◌}
 use lib.ListN.{length}
-use native.Mathlib.Omega.{arith}
-use Rattle.laying.proofs.EachHole.{Moving, holes_moving, holes_moving_turn, holes_moving_end}
+use Rattle.laying.proofs.EachHole.{Moving}
 use Rattle.laying.proofs.holes.onto_all.Given as goal
 
 abbrev pub invariant-loop-i : goal.invariant-loop-i

@@ -1,7 +1,6 @@
 use Rattle.tables.proofs.Rows.{length-rows}
 use native.Mathlib.Omega.{arith}
 use Rattle.laying.proofs.EachHole.{straddles_in}
-use borrow.Author.Rules.{rules}
 use Rattle.laying.proofs.holes.straddles_part.Goals as goal
 
 pub overflow_mul-a : goal.overflow_mul-a

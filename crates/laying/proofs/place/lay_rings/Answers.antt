@@ -1,5 +1,4 @@
 use Rattle.laying.proofs.Steps.{first-laid, later-laid}
-use borrow.Author.Rules.{rules}
 use Rattle.laying.proofs.place.lay_rings.Goals as goal
 
 pub returns : goal.returns

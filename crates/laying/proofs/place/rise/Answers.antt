@@ -1,5 +1,4 @@
 use Rattle.laying.proofs.Steps.{rises, stays}
-use borrow.Author.Rules.{rules}
 use Rattle.laying.proofs.place.rise.Goals as goal
 
 pub returns-then-falls : goal.returns-then-falls

@@ -1,5 +1,4 @@
 use Rattle.laying.proofs.Steps.{shift_answer}
-use borrow.Author.Rules.{rules}
 use Rattle.laying.proofs.place.shift.Goals as goal
 
 pub returns : goal.returns

@@ -1,7 +1,6 @@
 use Rattle.seam.proofs.Cuts.{gap_is}
 use Rattle.tables.specs.Corners.{us}
 use Rattle.tables.specs.Rows.{rows}
-use borrow.Author.Rules.{rules}
 use Rattle.laying.proofs.reseam.gap_between.Goals as goal
 
 pub returns : goal.returns

@@ -1,5 +1,4 @@
 use Rattle.laying.proofs.Reseaming.{strip-above}
-use borrow.Author.Rules.{rules}
 use Rattle.laying.proofs.reseam.has_strip.Goals as goal
 
 pub returns-then-is_finite : goal.returns-then-is_finite

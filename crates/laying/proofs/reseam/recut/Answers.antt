@@ -1,5 +1,4 @@
 use Rattle.laying.proofs.Reseaming.{recut_is}
-use borrow.Author.Rules.{rules}
 use Rattle.laying.proofs.reseam.recut.Goals as goal
 
 pub returns : goal.returns

@@ -1,5 +1,4 @@
 use Rattle.laying.proofs.Reseaming.{short_low, short_high, with_room}
-use borrow.Author.Rules.{rules}
 use Rattle.laying.proofs.reseam.reseam.Goals as goal
 
 pub returns-then-low-n : goal.returns-then-low-n

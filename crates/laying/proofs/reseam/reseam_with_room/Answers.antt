@@ -1,7 +1,6 @@
 use mathlib.Core.Bool.{not}
 use Rattle.std.proofs.Common.{ap}
 use Rattle.laying.proofs.Reseaming.{stripless, none_across, at_gap, no_gap}
-use borrow.Author.Rules.{rules}
 use Rattle.laying.proofs.reseam.reseam_with_room.Goals as goal
 
 pub returns-then-not-has_strip : goal.returns-then-not-has_strip

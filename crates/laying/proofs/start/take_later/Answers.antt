@@ -1,7 +1,6 @@
 use native.Mathlib.Omega.{arith}
 use Rattle.tables.specs.Rows.{rows}
 use Rattle.laying.proofs.Starting.{later-taken}
-use borrow.Author.Rules.{rules}
 use Rattle.laying.proofs.start.take_later.Goals as goal
 
 pub shape_of-u : goal.shape_of-u

@@ -1,12 +1,10 @@
-use Prim.Native.Nat.{◌-◌, ◌/◌, min}
-use mathlib.Core.Path.{◌≡◌, ap, ◌∙◌}
+use Prim.Native.Nat.{min}
+use mathlib.Core.Path.{ap, ◌∙◌}
 use native.Mathlib.Omega.{arith}
-use lib.ListN.{length, replicate}
-use borrow.Author.Rules.{rules}
+use lib.ListN.{replicate}
 use Rattle.lists.specs.Placed.{placed}
-use Rattle.tables.specs.Rows.{rows}
 use Rattle.tables.proofs.Rows.{length-rows}
-use Rattle.loop_records.proofs.Recorded.{Recording, no_recording, recording, recording_turn, recording_end}
+use Rattle.loop_records.proofs.Recorded.{no_recording, recording, recording_turn, recording_end}
 use Rattle.loop_records.proofs.measure.measure_loops.Goals as goal
 
 pub returns-then-counts-gt16 : goal.returns-then-counts-gt16

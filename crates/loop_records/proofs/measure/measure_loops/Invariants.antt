@@ -1,12 +1,8 @@
-use Prim.Native.Nat.{◌-◌, ◌/◌, min}
-use mathlib.Core.Path.{◌≡◌, ap, ◌∙◌}
-use native.Mathlib.Omega.{arith}
-use lib.ListN.{length, replicate}
-use borrow.Author.Rules.{rules}
-use Rattle.lists.specs.Placed.{placed}
+use Prim.Native.Nat.{◌-◌, ◌/◌}
+use mathlib.Core.Path.{◌≡◌}
+use lib.ListN.{length}
 use Rattle.tables.specs.Rows.{rows}
-use Rattle.tables.proofs.Rows.{length-rows}
-use Rattle.loop_records.proofs.Recorded.{Recording, no_recording, recording, recording_turn, recording_end}
+use Rattle.loop_records.proofs.Recorded.{Recording}
 use Rattle.loop_records.proofs.measure.measure_loops.Given as goal
 
 abbrev pub invariant-loop-i : goal.invariant-loop-i

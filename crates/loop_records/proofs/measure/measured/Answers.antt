@@ -1,4 +1,3 @@
-use borrow.Author.Rules.{rules}
 use borrow.Author.Rules.{sfits_of}
 use Rattle.loop_records.proofs.Recorded.{record_is}
 use Rattle.loop_records.proofs.measure.measured.Goals as goal

@@ -1,7 +1,6 @@
 use mathlib.Core.Path.{ap, ◌∙◌}
 use native.Mathlib.Omega.{arith}
 use lib.ListN.{set}
-use borrow.Author.Rules.{rules}
 use Rattle.numbers.specs.declared.math.Vec3.{Vec3}
 use Rattle.tables.specs.Corners.{Corners}
 use Rattle.tables.proofs.Rows.{length-rows, rows_part}

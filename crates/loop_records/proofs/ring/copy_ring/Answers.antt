@@ -1,4 +1,3 @@
-use borrow.Author.Rules.{rules}
 use Rattle.loop_records.proofs.Rings.{put_as}
 use Rattle.loop_records.proofs.ring.copy_ring.Goals as goal
 

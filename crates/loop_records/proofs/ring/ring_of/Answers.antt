@@ -1,4 +1,3 @@
-use borrow.Author.Rules.{rules}
 use Rattle.tables.specs.Rows.{rows}
 use Rattle.loop_records.proofs.Rings.{none-taken}
 use Rattle.loop_records.proofs.ring.ring_of.Goals as goal

@@ -1,5 +1,4 @@
 use Rattle.loops.proofs.Landing.{shift_answer}
-use borrow.Author.Rules.{rules}
 use Rattle.loops.proofs.branch.branch_shift.Goals as goal
 
 pub returns : goal.returns

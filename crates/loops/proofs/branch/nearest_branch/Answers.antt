@@ -1,6 +1,5 @@
 use Rattle.loops.specs.Branch.{nearest_branch}
 use Rattle.loops.proofs.Landing.{branch_answer}
-use borrow.Author.Rules.{rules}
 use Rattle.loops.proofs.branch.nearest_branch.Goals as goal
 
 pub returns-then-period : goal.returns-then-period

@@ -1,5 +1,4 @@
 use Rattle.loops.proofs.rows.Area.{next_within, next_round}
-use borrow.Author.Rules.{rules}
 use Rattle.loops.proofs.rows.next.Goals as goal
 
 pub returns-then-i-n : goal.returns-then-i-n

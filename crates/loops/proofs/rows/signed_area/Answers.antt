@@ -1,9 +1,6 @@
-use Prim.Native.Nat.{◌-◌}
 use Rattle.loops.proofs.rows.Area.{summing, summing_end}
 use Rattle.loops.specs.Area.{cross_sum}
-use Rattle.loops.proofs.rows.Reading.{Adding, adding_turn, count_both}
-use borrow.Author.Rules.{rules}
-use native.Mathlib.Omega.{arith}
+use Rattle.loops.proofs.rows.Reading.{adding_turn, count_both}
 use Rattle.loops.proofs.rows.signed_area.Goals as goal
 
 pub loop-i-init : goal.loop-i-init

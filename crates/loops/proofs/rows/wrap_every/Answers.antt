@@ -1,5 +1,5 @@
 use Rattle.loops.proofs.rows.Reading.{net-few, net_more}
-use borrow.Author.Rules.{rules, sfits_of}
+use borrow.Author.Rules.{sfits_of}
 use mathlib.Core.Path.{◌∙◌}
 use mir.Facts.{to_z-of_z}
 use mir.Syntax.{w32}

@@ -1,5 +1,5 @@
 use mathlib.Core.Path.{◌∙◌}
-use borrow.Author.Rules.{rules, sfits_of}
+use borrow.Author.Rules.{sfits_of}
 use mir.Facts.{to_z-of_z}
 use mir.Syntax.{w32}
 use Rattle.loops.proofs.wrap.Laws.{counted, too_far_off, no_turn}

@@ -1,7 +1,6 @@
 use Rattle.tables.specs.Rows.{rows, corner_of}
 use Rattle.measuring.proofs.Searches.{no_ends_in, ends_in}
 use mathlib.Core.Path.{◌∙◌}
-use borrow.Author.Rules.{rules}
 use Rattle.measuring.proofs.refusals.ends_meet.Goals as goal
 
 pub returns-then-n-eq0 : goal.returns-then-n-eq0

@@ -1,10 +1,5 @@
-use Prim.Native.Nat.{◌-◌}
 use mathlib.Core.Path.{sym, ◌∙◌}
-use lib.ListN.{length}
-use native.Mathlib.Omega.{arith}
-use borrow.Author.Rules.{rules}
 use Rattle.records.proofs.Search.{seek_start, seek_turn, seek_found, seek_end}
-use Rattle.measuring.proofs.Searches.{Finding}
 use Rattle.measuring.proofs.refusals.first_wrapping.Goals as goal
 
 pub loop-k-init : goal.loop-k-init

@@ -1,6 +1,4 @@
-use native.Mathlib.Omega.{arith}
-use borrow.Author.Rules.{rules}
-use Rattle.measuring.proofs.Searches.{Falling, falling, falling_found, falling_turn, falling_end}
+use Rattle.measuring.proofs.Searches.{falling, falling_found, falling_turn, falling_end}
 use Rattle.measuring.proofs.refusals.last_wrapping.Goals as goal
 
 pub loop-k-init : goal.loop-k-init

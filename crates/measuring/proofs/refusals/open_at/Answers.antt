@@ -1,5 +1,4 @@
 use Rattle.measuring.proofs.Searches.{open_unless_closed, not_wrapping}
-use borrow.Author.Rules.{rules}
 use Rattle.measuring.proofs.refusals.open_at.Goals as goal
 
 pub returns-then-wraps_at : goal.returns-then-wraps_at

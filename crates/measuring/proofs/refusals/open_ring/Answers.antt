@@ -1,11 +1,6 @@
-use Prim.Native.Nat.{◌-◌}
 use mathlib.Core.Path.{sym, ◌∙◌}
-use lib.ListN.{length}
-use Rattle.tables.specs.Rows.{rows}
-use native.Mathlib.Omega.{arith}
-use borrow.Author.Rules.{rules}
 use Rattle.records.proofs.Search.{seek_start, seek_turn}
-use Rattle.measuring.proofs.Searches.{Opening, opening_found, opening_end}
+use Rattle.measuring.proofs.Searches.{opening_found, opening_end}
 use Rattle.measuring.proofs.refusals.open_ring.Goals as goal
 
 pub loop-k-init : goal.loop-k-init

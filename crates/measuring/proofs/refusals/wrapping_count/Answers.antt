@@ -1,8 +1,5 @@
-use Prim.Native.Nat.{◌-◌}
-use lib.ListN.{length}
 use native.Mathlib.Omega.{arith}
-use borrow.Author.Rules.{rules}
-use Rattle.measuring.proofs.Searches.{Counting, counting, counting_few, counting_turn, counting_end}
+use Rattle.measuring.proofs.Searches.{counting, counting_few, counting_turn, counting_end}
 use Rattle.measuring.proofs.refusals.wrapping_count.Goals as goal
 
 pub loop-i-init : goal.loop-i-init

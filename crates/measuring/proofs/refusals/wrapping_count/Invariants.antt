@@ -1,8 +1,6 @@
 use Prim.Native.Nat.{◌-◌}
 use lib.ListN.{length}
-use native.Mathlib.Omega.{arith}
-use borrow.Author.Rules.{rules}
-use Rattle.measuring.proofs.Searches.{Counting, counting, counting_few, counting_turn, counting_end}
+use Rattle.measuring.proofs.Searches.{Counting}
 use Rattle.measuring.proofs.refusals.wrapping_count.Given as goal
 
 abbrev pub invariant-loop-i : goal.invariant-loop-i

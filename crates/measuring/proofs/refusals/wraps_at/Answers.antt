@@ -1,5 +1,5 @@
 use Rattle.measuring.proofs.Searches.{wraps_within, wraps-past}
-use borrow.Author.Rules.{rules, sfits_of}
+use borrow.Author.Rules.{sfits_of}
 use Rattle.measuring.proofs.refusals.wraps_at.Goals as goal
 
 pub returns-then-k-wraps : goal.returns-then-k-wraps

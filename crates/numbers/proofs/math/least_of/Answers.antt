@@ -1,4 +1,3 @@
-use Rattle.std.proofs.Common.{rules}
 use Rattle.numbers.proofs.math.least_of.Goals as goal
 
 pub returns-then-x-z : goal.returns-then-x-z

@@ -1,4 +1,4 @@
-use Rattle.std.proofs.Common.{◌^◌, ◌<◌, arith, rules}
+use Rattle.std.proofs.Common.{◌^◌, ◌<◌, arith}
 use Rattle.numbers.proofs.bits.Laws.{not_nan-bits}
 use Rattle.numbers.proofs.root.Laws as laws
 use Rattle.numbers.proofs.root.even.Goals as goal

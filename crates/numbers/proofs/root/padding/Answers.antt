@@ -1,4 +1,4 @@
-use Rattle.std.proofs.Common.{◌-◌, arith}
+use Rattle.std.proofs.Common.{arith}
 use Rattle.numbers.proofs.root.Laws as laws
 use Rattle.numbers.proofs.root.Laws.{Padding}
 use Rattle.numbers.proofs.root.padding.Goals as goal

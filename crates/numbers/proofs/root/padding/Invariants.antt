@@ -1,5 +1,4 @@
-use Rattle.std.proofs.Common.{◌-◌, arith}
-use Rattle.numbers.proofs.root.Laws as laws
+use Rattle.std.proofs.Common.{◌-◌}
 use Rattle.numbers.proofs.root.Laws.{Padding}
 use Rattle.numbers.proofs.root.padding.Given as goal
 

@@ -1,4 +1,4 @@
-use Rattle.std.proofs.Common.{◌+◌, ◌-◌, ◌*◌, ◌/◌, ◌%◌, ◌^◌, ◌<◌, T, sym, ◌∙◌, subst, arith, rules}
+use Rattle.std.proofs.Common.{◌+◌, ◌-◌, ◌*◌, ◌/◌, ◌%◌, ◌^◌, ◌<◌, T, sym, ◌∙◌, subst, arith}
 use lib.Ieee.{binary64, fits, to_bits}
 use Rattle.numbers.proofs.root.Laws as laws
 use Rattle.numbers.proofs.root.positive.Goals as goal

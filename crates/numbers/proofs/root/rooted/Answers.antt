@@ -1,4 +1,4 @@
-use Rattle.std.proofs.Common.{ap, ◌∙◌, rules}
+use Rattle.std.proofs.Common.{ap, ◌∙◌}
 use Rattle.numbers.specs.Sqrt.{root_float}
 use Rattle.numbers.proofs.root.Laws as laws
 use Rattle.numbers.proofs.root.rooted.Goals as goal

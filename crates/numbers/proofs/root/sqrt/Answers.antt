@@ -1,6 +1,5 @@
 use Rattle.numbers.proofs.root.Laws as laws
 use Rattle.numbers.proofs.Reals as reals
-use Rattle.std.proofs.Common.{rules}
 use Rattle.numbers.proofs.root.sqrt.Goals as goal
 
 pub positive-requires : goal.positive-requires

@@ -1,5 +1,4 @@
 use Rattle.numbers.proofs.rounding.Cast as laws
-use Rattle.std.proofs.Common.{rules}
 use Rattle.numbers.proofs.rounding.as_usize.Goals as goal
 
 pub truncating_f64_to_u64-requires : goal.truncating_f64_to_u64-requires

@@ -1,4 +1,4 @@
-use Rattle.std.proofs.Common.{T, sym, ap, ◌∙◌, subst, rules}
+use Rattle.std.proofs.Common.{T, sym, ap, ◌∙◌, subst}
 use lib.Ieee.{binary64, fits, neg}
 use Rattle.numbers.proofs.Reals as reals
 use Rattle.numbers.proofs.rounding.Laws as laws

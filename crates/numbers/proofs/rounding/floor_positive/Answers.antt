@@ -1,4 +1,4 @@
-use Rattle.std.proofs.Common.{T, sym, ◌∙◌, subst, rules}
+use Rattle.std.proofs.Common.{T, sym, ◌∙◌, subst}
 use lib.Ieee.{binary64, fits}
 use Rattle.numbers.proofs.rounding.Laws as laws
 use Rattle.numbers.proofs.rounding.floor_positive.Goals as goal

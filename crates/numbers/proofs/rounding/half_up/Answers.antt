@@ -1,4 +1,4 @@
-use Rattle.std.proofs.Common.{T, sym, ◌∙◌, subst, arith, rules}
+use Rattle.std.proofs.Common.{T, sym, ◌∙◌, subst, arith}
 use lib.Ieee.{binary64, fits}
 use Rattle.numbers.proofs.rounding.Laws as laws
 use Rattle.numbers.proofs.rounding.half_up.Goals as goal

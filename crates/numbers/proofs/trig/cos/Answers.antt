@@ -1,4 +1,4 @@
-use Rattle.std.proofs.Common.{ap, rules}
+use Rattle.std.proofs.Common.{ap}
 use Rattle.numbers.specs.declared.trig.SinCos.{SinCos}
 use Rattle.numbers.proofs.trig.cos.Goals as goal
 

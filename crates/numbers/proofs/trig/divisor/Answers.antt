@@ -1,4 +1,4 @@
-use Rattle.std.proofs.Common.{ℕ, ◌+◌, ◌-◌, ◌*◌, ◌^◌, ◌<◌, ◌≤◌, Bool, sym, ap, lt_of_le_of_lt, mul-le-mul, arith, lit<, rules}
+use Rattle.std.proofs.Common.{ℕ, ◌+◌, ◌-◌, ◌*◌, ◌^◌, ◌<◌, ◌≤◌, Bool, sym, ap, lt_of_le_of_lt, mul-le-mul, arith, lit<}
 use Rattle.numbers.specs.Trig.{divisor_of}
 use Rattle.numbers.proofs.trig.divisor.Goals as goal
 

@@ -1,4 +1,4 @@
-use Rattle.std.proofs.Common.{ℕ, ◌-◌, ◌%◌, ap, ◌∙◌, arith, rules}
+use Rattle.std.proofs.Common.{ℕ, ◌-◌, ◌%◌, ap, ◌∙◌, arith}
 use lib.Ieee.{neg}
 use Rattle.numbers.proofs.Reals as reals
 use Rattle.numbers.proofs.trig.Laws as laws

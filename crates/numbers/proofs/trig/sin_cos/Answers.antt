@@ -1,4 +1,4 @@
-use Rattle.std.proofs.Common.{◌≡◌, true, false, ap, ◌∙◌, rules}
+use Rattle.std.proofs.Common.{◌≡◌, true, false, ap, ◌∙◌}
 use lib.Ieee.{Float, binary64, neg, mul, sub, div, lt}
 use Rattle.numbers.specs.Constants.{plus_zero, H, thousand}
 use Rattle.numbers.specs.Trig.{reduced_of, sincos_in, sincos_of}

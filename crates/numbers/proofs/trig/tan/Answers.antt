@@ -1,4 +1,4 @@
-use Rattle.std.proofs.Common.{ap, rules}
+use Rattle.std.proofs.Common.{ap}
 use lib.Ieee.{binary64, div}
 use Rattle.numbers.specs.declared.trig.SinCos.{SinCos}
 use Rattle.numbers.specs.Trig.{tan_of}

@@ -1,9 +1,6 @@
-use native.Mathlib.Omega.{arith}
 use Prim.Native.Nat.{◌-◌}
-use borrow.Author.Tests.{not-true, not-false}
 use Rattle.records.specs.Face.{head_reals}
 use Rattle.records.proofs.Reals as reals
-use borrow.Author.Rules.{rules}
 use Rattle.records.proofs.check.bad_head.Given as goal
 
 abbrev pub invariant-loop-i : goal.invariant-loop-i

@@ -1,11 +1,8 @@
 use mathlib.Core.Bool.{not}
 use Rattle.std.proofs.Common.{ap}
 use native.Mathlib.Omega.{arith}
-use Prim.Native.Nat.{◌-◌, ◌*◌}
 use borrow.Author.Tests.{not-true, not-false}
-use Rattle.records.specs.Face.{head_reals}
 use Rattle.records.proofs.Reals as reals
-use borrow.Author.Rules.{rules}
 use Rattle.records.proofs.check.bad_parameter.Goals as goal
 
 pub loop-j-init : goal.loop-j-init

@@ -1,9 +1,6 @@
-use native.Mathlib.Omega.{arith}
 use Prim.Native.Nat.{◌-◌, ◌*◌}
-use borrow.Author.Tests.{not-true, not-false}
 use Rattle.records.specs.Face.{head_reals}
 use Rattle.records.proofs.Reals as reals
-use borrow.Author.Rules.{rules}
 use Rattle.records.proofs.check.bad_parameter.Given as goal
 
 abbrev pub invariant-loop-j : goal.invariant-loop-j

@@ -2,11 +2,8 @@ use mathlib.Core.Bool.{not}
 use Rattle.std.proofs.Common.{ap}
 use native.Mathlib.Omega.{arith}
 use mathlib.Core.Path.{refl}
-use Prim.Native.Nat.{◌+◌, ◌-◌, ◌*◌}
 use borrow.Author.Tests.{not-true, not-false}
-use Rattle.records.specs.Face.{head_reals, kind}
 use Rattle.records.proofs.Reals as reals
-use borrow.Author.Rules.{rules}
 use Rattle.records.proofs.check.bad_position.Goals as goal
 
 pub loop-j-init : goal.loop-j-init

@@ -1,10 +1,6 @@
-use native.Mathlib.Omega.{arith}
-use mathlib.Core.Path.{refl}
 use Prim.Native.Nat.{◌+◌, ◌-◌, ◌*◌}
-use borrow.Author.Tests.{not-true, not-false}
 use Rattle.records.specs.Face.{head_reals, kind}
 use Rattle.records.proofs.Reals as reals
-use borrow.Author.Rules.{rules}
 use Rattle.records.proofs.check.bad_position.Given as goal
 
 abbrev pub invariant-loop-j : goal.invariant-loop-j

@@ -5,7 +5,6 @@ use Rattle.records.specs.declared.limits.Limits.{Limits}
 use Rattle.records.specs.Refusals.{nowhere, wrong_header, too_many_loops, ends_in_counts, too_few_points, too_many_points, wrong_length, first_bad_real, verdict}
 use Rattle.records.proofs.Search.{found, not_found}
 use Rattle.records.proofs.Counting as counting
-use borrow.Author.Rules.{rules}
 use Rattle.records.proofs.check.check.Goals as goal
 use Rattle.records.proofs.check.check.Goals.{In_default, In_default-ends_in_counts, In_default-first_bad_real, In_default-too_few_points, In_default-too_many_loops, In_default-too_many_points, In_default-wrong_length}
 

@@ -1,6 +1,5 @@
 use native.Mathlib.Omega.{arith}
 use Rattle.records.proofs.Counting as counting
-use borrow.Author.Rules.{rules}
 use Rattle.records.proofs.check.ends_in_counts.Goals as goal
 
 pub returns-then-face-end : goal.returns-then-face-end

@@ -6,7 +6,6 @@ use Rattle.records.specs.Refusals.{nowhere}
 use Rattle.records.specs.Parts.{bad_from}
 use Rattle.records.proofs.Search.{found, not_found}
 use Rattle.records.proofs.Reals as reals
-use borrow.Author.Rules.{rules}
 use Rattle.records.proofs.check.first_bad_real.Goals as goal
 use Rattle.records.proofs.check.first_bad_real.Goals.{In_default, In_default-bad_parameter}
 

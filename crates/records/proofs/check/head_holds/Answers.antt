@@ -3,7 +3,6 @@ use lib.Ieee.{of_bits, of_fields, odd, neg}
 use borrow.Author.Tests.{lt-ltb, le-ltb, eq-eqb, ne_eqb}
 use Rattle.records.specs.Limits.{head_range}
 use Rattle.records.proofs.Ranges.{within, held}
-use borrow.Author.Rules.{rules}
 use Rattle.records.proofs.check.head_holds.Goals as goal
 
 pub returns-then-i-lt9 : goal.returns-then-i-lt9

@@ -3,7 +3,6 @@ use lib.Ieee.{of_bits, of_fields, odd, neg}
 use borrow.Author.Tests.{eq-eqb, ne_eqb}
 use Rattle.records.specs.Limits.{second}
 use Rattle.records.proofs.Ranges.{within}
-use borrow.Author.Rules.{rules}
 use Rattle.records.proofs.check.second_holds.Goals as goal
 
 pub returns-then-kind-eq2 : goal.returns-then-kind-eq2

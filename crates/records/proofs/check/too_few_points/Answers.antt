@@ -1,10 +1,6 @@
 use native.Mathlib.Omega.{arith}
-use mathlib.Core.Path.{◌≡◌}
-use Prim.Native.Nat.{◌-◌, ◌<◌}
-use Rattle.records.specs.Face.{loops}
-use Rattle.records.proofs.Search.{Seeking, seek_start}
+use Rattle.records.proofs.Search.{seek_start}
 use Rattle.records.proofs.Counting as counting
-use borrow.Author.Rules.{rules}
 use Rattle.records.proofs.check.too_few_points.Goals as goal
 
 pub loop-k-init : goal.loop-k-init

@@ -1,10 +1,8 @@
-use native.Mathlib.Omega.{arith}
 use mathlib.Core.Path.{◌≡◌}
 use Prim.Native.Nat.{◌-◌, ◌<◌}
 use Rattle.records.specs.Face.{loops}
-use Rattle.records.proofs.Search.{Seeking, seek_start}
+use Rattle.records.proofs.Search.{Seeking}
 use Rattle.records.proofs.Counting as counting
-use borrow.Author.Rules.{rules}
 use Rattle.records.proofs.check.too_few_points.Given as goal
 
 abbrev pub invariant-loop-k : goal.invariant-loop-k

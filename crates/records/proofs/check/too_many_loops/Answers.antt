@@ -1,5 +1,4 @@
 use Rattle.records.proofs.Counting as counting
-use borrow.Author.Rules.{rules}
 use Rattle.records.proofs.check.too_many_loops.Goals as goal
 
 pub returns-then-l-limits : goal.returns-then-l-limits

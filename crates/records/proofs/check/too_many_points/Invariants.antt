@@ -1,9 +1,7 @@
-use native.Mathlib.Omega.{arith}
 use mathlib.Core.Path.{◌≡◌}
 use Prim.Native.Nat.{◌-◌, ◌<◌}
 use Rattle.records.specs.Face.{loops}
 use Rattle.records.proofs.Counting as counting
-use borrow.Author.Rules.{rules}
 use Rattle.records.proofs.check.too_many_points.Given as goal
 
 abbrev pub invariant-loop-k : goal.invariant-loop-k

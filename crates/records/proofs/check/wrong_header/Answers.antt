@@ -1,6 +1,5 @@
 use borrow.Author.Tests.{lt-ltb, le-ltb, eq-eqb, ne_eqb}
 use Rattle.records.specs.Refusals.{wrong_header, wrong_byte, first_from}
-use borrow.Author.Rules.{rules}
 use Rattle.records.proofs.check.wrong_header.Goals as goal
 
 pub returns-then-face-lt-HEADER_SIZE : goal.returns-then-face-lt-HEADER_SIZE

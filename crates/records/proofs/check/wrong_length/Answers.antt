@@ -1,6 +1,5 @@
 use native.Mathlib.Omega.{arith}
 use Rattle.records.proofs.Counting as counting
-use borrow.Author.Rules.{rules}
 use Rattle.records.proofs.check.wrong_length.Goals as goal
 
 pub returns-then-face-needed : goal.returns-then-face-needed

@@ -1,7 +1,6 @@
 use mathlib.Core.Path.{refl}
 use lib.Ieee.{of_bits, of_fields, odd, neg}
 use Rattle.records.proofs.Ranges.{within}
-use borrow.Author.Rules.{rules}
 use Rattle.records.proofs.check.xyz_holds.Goals as goal
 
 pub returns : goal.returns

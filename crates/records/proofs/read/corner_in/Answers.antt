@@ -1,5 +1,4 @@
 use Rattle.records.proofs.Columns as columns
-use borrow.Author.Rules.{rules}
 use Rattle.records.proofs.read.corner_in.Goals as goal
 
 pub returns : goal.returns

@@ -6,7 +6,6 @@ use lib.Dec.{leb}
 use borrow.Author.Tests.{lt-leb}
 use Rattle.records.specs.Face.{header_size, loops}
 use Rattle.records.specs.Lent.{counts_there}
-use borrow.Author.Rules.{rules}
 use Rattle.records.proofs.read.counts_there.Goals as goal
 use Rattle.records.proofs.read.counts_there.Goals.{Then-face-lt-HEADER_SIZE}
 

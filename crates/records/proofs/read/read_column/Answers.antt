@@ -1,5 +1,4 @@
 use native.Mathlib.Omega.{arith}
-use Prim.Native.Nat.{◌-◌}
 use Rattle.records.proofs.Columns as columns
 use Rattle.records.proofs.read.read_column.Goals as goal
 

@@ -1,4 +1,3 @@
-use native.Mathlib.Omega.{arith}
 use Prim.Native.Nat.{◌-◌}
 use Rattle.records.proofs.Columns as columns
 use Rattle.records.proofs.read.read_column.Given as goal

@@ -1,12 +1,7 @@
 use mathlib.Core.Bool.{not}
 use Rattle.std.proofs.Common.{ap}
-use native.Mathlib.Omega.{arith}
-use Prim.Native.Nat.{◌+◌, ◌-◌, ◌*◌, ◌≤◌}
-use lib.ListN.{length}
-use Rattle.records.specs.Face.{header_size, loops, counts}
 use Rattle.records.proofs.Columns as columns
 use Rattle.records.proofs.Reading as reading
-use borrow.Author.Rules.{rules}
 use Rattle.records.proofs.read.read_counts.Goals as goal
 
 pub returns-then-not-counts_there : goal.returns-then-not-counts_there

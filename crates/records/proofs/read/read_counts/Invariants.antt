@@ -1,10 +1,7 @@
-use native.Mathlib.Omega.{arith}
 use Prim.Native.Nat.{◌+◌, ◌-◌, ◌*◌, ◌≤◌}
 use lib.ListN.{length}
 use Rattle.records.specs.Face.{header_size, loops, counts}
 use Rattle.records.proofs.Columns as columns
-use Rattle.records.proofs.Reading as reading
-use borrow.Author.Rules.{rules}
 use Rattle.records.proofs.read.read_counts.Given as goal
 
 abbrev pub invariant-loop-k : goal.invariant-loop-k

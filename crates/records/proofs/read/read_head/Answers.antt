@@ -2,7 +2,6 @@ use mathlib.Core.Bool.{not}
 use Rattle.std.proofs.Common.{ap}
 use native.Mathlib.Omega.{arith}
 use Rattle.records.proofs.Reading as reading
-use borrow.Author.Rules.{rules}
 use Rattle.records.proofs.read.read_head.Goals as goal
 
 pub returns-then-not-counts_there : goal.returns-then-not-counts_there

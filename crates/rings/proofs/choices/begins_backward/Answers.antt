@@ -1,5 +1,4 @@
 use Rattle.rings.proofs.Decisions.{few_forward, second-first}
-use borrow.Author.Rules.{rules}
 use Rattle.rings.proofs.choices.begins_backward.Goals as goal
 
 pub returns-then-u-le3 : goal.returns-then-u-le3

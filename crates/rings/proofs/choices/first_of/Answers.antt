@@ -2,7 +2,6 @@ use mathlib.Core.Path.{sym}
 use lib.Ieee.{nan, div, of_bits}
 use lib.ListN.{get_or-eq_default}
 use native.Mathlib.Omega.{arith}
-use borrow.Author.Rules.{rules}
 use Rattle.rings.proofs.choices.first_of.Goals as goal
 
 pub returns-then-u-eq0 : goal.returns-then-u-eq0

@@ -1,7 +1,4 @@
-use Prim.Native.Nat.{◌-◌}
-use Rattle.rings.proofs.Decisions.{Nearing, nearing, nearing_less, nearing_other, nearing_end, nearest-none}
-use native.Mathlib.Omega.{arith}
-use borrow.Author.Rules.{rules}
+use Rattle.rings.proofs.Decisions.{nearing, nearing_less, nearing_other, nearing_end, nearest-none}
 use Rattle.rings.proofs.choices.nearest.Goals as goal
 
 pub returns-then-u-lt2 : goal.returns-then-u-lt2

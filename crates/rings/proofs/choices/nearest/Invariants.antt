@@ -1,7 +1,5 @@
 use Prim.Native.Nat.{◌-◌}
-use Rattle.rings.proofs.Decisions.{Nearing, nearing, nearing_less, nearing_other, nearing_end, nearest-none}
-use native.Mathlib.Omega.{arith}
-use borrow.Author.Rules.{rules}
+use Rattle.rings.proofs.Decisions.{Nearing}
 use Rattle.rings.proofs.choices.nearest.Given as goal
 
 abbrev pub invariant-loop-i : goal.invariant-loop-i

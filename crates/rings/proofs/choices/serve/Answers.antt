@@ -1,5 +1,4 @@
 use Rattle.rings.proofs.Decisions.{serve_backward, serve-first, serve-later}
-use borrow.Author.Rules.{rules}
 use Rattle.rings.proofs.choices.serve.Goals as goal
 
 pub returns-then-begins_backward : goal.returns-then-begins_backward

@@ -1,8 +1,4 @@
-use Prim.Native.Nat.{◌-◌}
-use lib.ListN.{length}
-use Rattle.rings.proofs.Decisions.{Standing, standing, standing_found, standing_turn, standing_end}
-use native.Mathlib.Omega.{arith}
-use borrow.Author.Rules.{rules}
+use Rattle.rings.proofs.Decisions.{standing, standing_found, standing_turn, standing_end}
 use Rattle.rings.proofs.choices.stands_at_the_cut.Goals as goal
 
 pub loop-i-init : goal.loop-i-init

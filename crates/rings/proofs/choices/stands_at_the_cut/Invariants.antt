@@ -1,8 +1,6 @@
 use Prim.Native.Nat.{◌-◌}
 use lib.ListN.{length}
-use Rattle.rings.proofs.Decisions.{Standing, standing, standing_found, standing_turn, standing_end}
-use native.Mathlib.Omega.{arith}
-use borrow.Author.Rules.{rules}
+use Rattle.rings.proofs.Decisions.{Standing}
 use Rattle.rings.proofs.choices.stands_at_the_cut.Given as goal
 
 abbrev pub invariant-loop-i : goal.invariant-loop-i

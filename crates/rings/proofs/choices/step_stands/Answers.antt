@@ -1,5 +1,4 @@
 use mathlib.Core.Path.{sym}
-use borrow.Author.Rules.{rules}
 use Rattle.rings.proofs.choices.step_stands.Goals as goal
 
 pub returns-then-abs : goal.returns-then-abs

@@ -1,5 +1,4 @@
 use Rattle.rings.proofs.Turning.{align_few, align_turned}
-use borrow.Author.Rules.{rules}
 use Rattle.rings.proofs.moves.align_at.Goals as goal
 
 pub returns-then-s-lt3 : goal.returns-then-s-lt3

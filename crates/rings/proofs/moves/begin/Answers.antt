@@ -2,7 +2,6 @@ use mathlib.Core.Path.{◌∙◌}
 use Rattle.loops.proofs.Turns.{begun-past}
 use Rattle.rings.proofs.Turning.{begun_here}
 use Rattle.tables.specs.Moves.{moved_by}
-use borrow.Author.Rules.{rules}
 use Rattle.rings.proofs.moves.begin.Goals as goal
 
 pub returns-then-n-k : goal.returns-then-n-k

@@ -1,7 +1,6 @@
 use Rattle.lists.proofs.Parts.{part_is}
 use Rattle.loops.specs.Rings.{begun}
 use Rattle.tables.specs.Moves.{moved_by}
-use borrow.Author.Rules.{rules}
 use Rattle.rings.proofs.moves.begin_part.Goals as goal
 
 pub returns : goal.returns

@@ -1,5 +1,4 @@
 use Rattle.rings.proofs.Turning.{stays_at, stays_few, turned_else}
-use borrow.Author.Rules.{rules}
 use Rattle.rings.proofs.moves.begin_ring_at.Goals as goal
 
 pub returns-then-k-eq0 : goal.returns-then-k-eq0

@@ -1,10 +1,5 @@
-use Prim.Native.Nat.{◌-◌}
-use lib.ListN.{length}
 use lib.Ieee.{nan}
-use Rattle.lists.proofs.Mapping.{Mapping, mapping, mapping_turn, mapping_end}
-use Rattle.tables.specs.Moves.{moved_by}
-use native.Mathlib.Omega.{arith}
-use borrow.Author.Rules.{rules}
+use Rattle.lists.proofs.Mapping.{mapping, mapping_turn, mapping_end}
 use Rattle.rings.proofs.moves.move_all.Goals as goal
 
 pub loop-i-init : goal.loop-i-init

@@ -1,10 +1,8 @@
 use Prim.Native.Nat.{◌-◌}
 use lib.ListN.{length}
 use lib.Ieee.{nan}
-use Rattle.lists.proofs.Mapping.{Mapping, mapping, mapping_turn, mapping_end}
+use Rattle.lists.proofs.Mapping.{Mapping}
 use Rattle.tables.specs.Moves.{moved_by}
-use native.Mathlib.Omega.{arith}
-use borrow.Author.Rules.{rules}
 use Rattle.rings.proofs.moves.move_all.Given as goal
 
 abbrev pub invariant-loop-i : goal.invariant-loop-i

@@ -1,7 +1,6 @@
 use mathlib.Core.List.{map}
 use Rattle.lists.proofs.Parts.{part_is}
 use Rattle.tables.specs.Moves.{moved_by}
-use borrow.Author.Rules.{rules}
 use Rattle.rings.proofs.moves.move_part.Goals as goal
 
 pub returns : goal.returns

@@ -1,8 +1,5 @@
-use Prim.Native.Nat.{◌-◌}
 use lib.Ieee.{nan}
-use Rattle.lists.proofs.InPlace.{Reversing, reversing, reversing_turn, reversing_end}
-use native.Mathlib.Omega.{arith}
-use borrow.Author.Rules.{rules}
+use Rattle.lists.proofs.InPlace.{reversing, reversing_turn, reversing_end}
 use Rattle.rings.proofs.moves.reverse.Goals as goal
 
 pub loop-i-init : goal.loop-i-init

@@ -1,8 +1,5 @@
 use Prim.Native.Nat.{◌-◌}
-use lib.Ieee.{nan}
-use Rattle.lists.proofs.InPlace.{Reversing, reversing, reversing_turn, reversing_end}
-use native.Mathlib.Omega.{arith}
-use borrow.Author.Rules.{rules}
+use Rattle.lists.proofs.InPlace.{Reversing}
 use Rattle.rings.proofs.moves.reverse.Given as goal
 
 abbrev pub invariant-loop-i : goal.invariant-loop-i

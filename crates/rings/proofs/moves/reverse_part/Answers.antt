@@ -1,6 +1,5 @@
 use mathlib.Core.List.{reverse}
 use Rattle.lists.proofs.Parts.{part_is}
-use borrow.Author.Rules.{rules}
 use Rattle.rings.proofs.moves.reverse_part.Goals as goal
 
 pub returns : goal.returns

@@ -1,6 +1,5 @@
 use mathlib.Core.Path.{refl}
 use Rattle.lists.specs.Parts.{swapped}
-use borrow.Author.Rules.{rules}
 use Rattle.rings.proofs.moves.swap.Goals as goal
 
 pub returns : goal.returns

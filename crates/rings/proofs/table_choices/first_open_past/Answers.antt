@@ -1,7 +1,6 @@
 use Rattle.tables.proofs.Rows.{length-rows}
 use native.Mathlib.Omega.{arith}
 use Rattle.rings.proofs.ReadRows.{open_rows-none, open_rows-past}
-use borrow.Author.Rules.{rules}
 use Rattle.rings.proofs.table_choices.first_open_past.Goals as goal
 
 pub returns-then-n-eq0 : goal.returns-then-n-eq0

@@ -1,7 +1,4 @@
-use Prim.Native.Nat.{◌-◌}
-use Rattle.rings.proofs.ReadRows.{Searching, searching, searching_turn, searching_found, searching_end}
-use borrow.Author.Rules.{rules}
-use native.Mathlib.Omega.{arith}
+use Rattle.rings.proofs.ReadRows.{searching, searching_turn, searching_found, searching_end}
 use Rattle.rings.proofs.table_choices.first_past.Goals as goal
 
 pub loop-i-init : goal.loop-i-init

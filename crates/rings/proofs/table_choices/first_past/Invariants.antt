@@ -1,7 +1,5 @@
 use Prim.Native.Nat.{◌-◌}
-use Rattle.rings.proofs.ReadRows.{Searching, searching, searching_turn, searching_found, searching_end}
-use borrow.Author.Rules.{rules}
-use native.Mathlib.Omega.{arith}
+use Rattle.rings.proofs.ReadRows.{Searching}
 use Rattle.rings.proofs.table_choices.first_past.Given as goal
 
 abbrev pub invariant-loop-i : goal.invariant-loop-i

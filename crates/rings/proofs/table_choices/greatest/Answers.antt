@@ -1,11 +1,6 @@
-use Prim.Native.Nat.{◌-◌}
 use Rattle.loops.specs.Span.{greatest_of}
-use Rattle.numbers.specs.Order.{max_of}
-use Rattle.rings.proofs.ReadRows.{Reading, reading, reading_turn, reading_end}
-use borrow.Author.Rules.{rules}
-use lib.Ieee.{inf, div, neg, of_bits}
-use mathlib.Core.Bool.{true}
-use native.Mathlib.Omega.{arith}
+use Rattle.rings.proofs.ReadRows.{reading, reading_turn, reading_end}
+use lib.Ieee.{div, neg, of_bits}
 use Rattle.rings.proofs.table_choices.greatest.Goals as goal
 
 pub loop-i-init : goal.loop-i-init

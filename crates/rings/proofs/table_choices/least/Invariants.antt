@@ -1,11 +1,8 @@
 use Prim.Native.Nat.{◌-◌}
-use Rattle.loops.specs.Span.{least_of}
 use Rattle.numbers.specs.Order.{min_of}
-use Rattle.rings.proofs.ReadRows.{Reading, reading, reading_turn, reading_end}
-use borrow.Author.Rules.{rules}
-use lib.Ieee.{inf, div, neg, of_bits}
+use Rattle.rings.proofs.ReadRows.{Reading}
+use lib.Ieee.{inf}
 use mathlib.Core.Bool.{false}
-use native.Mathlib.Omega.{arith}
 use Rattle.rings.proofs.table_choices.least.Given as goal
 
 abbrev pub invariant-loop-i : goal.invariant-loop-i

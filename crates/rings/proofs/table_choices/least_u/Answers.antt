@@ -1,5 +1,4 @@
 use Rattle.rings.specs.Choices.{least_u}
-use borrow.Author.Rules.{rules}
 use Rattle.rings.proofs.table_choices.least_u.Goals as goal
 
 pub returns : goal.returns

@@ -1,5 +1,4 @@
 use Rattle.rings.proofs.Decisions.{past_end, below-begin}
-use borrow.Author.Rules.{rules}
 use Rattle.rings.proofs.table_choices.straddles.Goals as goal
 
 pub returns-then-greatest-lo : goal.returns-then-greatest-lo

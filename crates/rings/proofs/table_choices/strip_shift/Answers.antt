@@ -1,5 +1,4 @@
 use Rattle.rings.proofs.Shifts.{strip_answer}
-use borrow.Author.Rules.{rules}
 use Rattle.rings.proofs.table_choices.strip_shift.Goals as goal
 
 pub returns : goal.returns

@@ -4,7 +4,6 @@ use Rattle.rings.proofs.TurnedRows.{rows-past, rows-begun}
 use Rattle.tables.proofs.Rows.{length-rows}
 use Rattle.tables.specs.Rows.{rows}
 use native.Mathlib.Omega.{arith}
-use borrow.Author.Rules.{rules}
 use Rattle.rings.proofs.table_turns.begin.Goals as goal
 
 pub returns-then-n-k : goal.returns-then-n-k

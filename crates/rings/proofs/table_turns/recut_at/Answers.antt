@@ -1,6 +1,5 @@
 use Rattle.rings.proofs.Turning.{stays_at}
 use Rattle.rings.proofs.TurnedRows.{rows_few, rows-recut}
-use borrow.Author.Rules.{rules}
 use Rattle.rings.proofs.table_turns.recut_at.Goals as goal
 
 pub returns-then-k-eq0 : goal.returns-then-k-eq0

@@ -3,7 +3,6 @@ use Rattle.tables.specs.Moves.{moved_by}
 use Rattle.tables.specs.Rows.{rows, none, corner_of}
 use Rattle.tables.proofs.InPlace.{moved_row}
 use Rattle.rings.proofs.TurnedRows.{rows-turned}
-use borrow.Author.Rules.{rules}
 use Rattle.rings.proofs.table_turns.turn.Goals as goal
 
 pub returns : goal.returns

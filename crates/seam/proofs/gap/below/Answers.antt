@@ -1,9 +1,6 @@
 use mathlib.Core.Bool.{not}
 use Rattle.std.proofs.Common.{ap}
-use Prim.Native.Nat.{◌-◌}
-use lib.ListN.{length}
-use native.Mathlib.Omega.{arith}
-use Rattle.seam.proofs.Spans.{Counting, counting, counting_found, counting_turn, counting_end}
+use Rattle.seam.proofs.Spans.{counting, counting_found, counting_turn, counting_end}
 use Rattle.seam.proofs.gap.below.Goals as goal
 
 pub loop-i-init : goal.loop-i-init

@@ -1,7 +1,6 @@
 use Prim.Native.Nat.{◌-◌}
 use lib.ListN.{length}
-use native.Mathlib.Omega.{arith}
-use Rattle.seam.proofs.Spans.{Counting, counting, counting_found, counting_turn, counting_end}
+use Rattle.seam.proofs.Spans.{Counting}
 use Rattle.seam.proofs.gap.below.Given as goal
 
 abbrev pub invariant-loop-i : goal.invariant-loop-i

@@ -1,5 +1,4 @@
 use Rattle.seam.proofs.Spans.{after_is}
-use borrow.Author.Rules.{rules}
 use Rattle.seam.proofs.gap.below_after.Goals as goal
 
 pub returns : goal.returns

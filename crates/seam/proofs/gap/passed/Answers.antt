@@ -1,6 +1,5 @@
 use mathlib.Core.Path.{sym}
 use Rattle.seam.proofs.Spans.{passed_wider, passed_not_wider}
-use borrow.Author.Rules.{rules}
 use Rattle.seam.proofs.gap.passed.Goals as goal
 
 pub returns-then-width-g : goal.returns-then-width-g

@@ -1,6 +1,5 @@
 use Rattle.lists.proofs.Parts.{part_is}
 use Rattle.loops.specs.Rings.{begun, unchanged}
-use borrow.Author.Rules.{rules}
 use Rattle.seam.proofs.gap.rotate_left.Goals as goal
 
 pub returns : goal.returns

@@ -1,7 +1,4 @@
-use Prim.Native.Nat.{◌-◌}
-use native.Mathlib.Omega.{arith}
-use borrow.Author.Rules.{rules}
-use Rattle.seam.proofs.Spans.{Sorting, sorting, sorting_turn, sorting_end, not_sorted}
+use Rattle.seam.proofs.Spans.{Sorting}
 use Rattle.seam.proofs.gap.sort_spans.Given as goal
 
 abbrev pub invariant-loop-i : goal.invariant-loop-i

@@ -1,7 +1,4 @@
-use Prim.Native.Nat.{◌-◌}
-use native.Mathlib.Omega.{arith}
-use borrow.Author.Rules.{rules}
-use Rattle.seam.proofs.Spans.{Passing, passing, passing_turn, passing-end}
+use Rattle.seam.proofs.Spans.{passing, passing_turn, passing-end}
 use Rattle.seam.proofs.gap.widest_gap.Goals as goal
 
 pub loop-i-init : goal.loop-i-init

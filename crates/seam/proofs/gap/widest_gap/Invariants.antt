@@ -1,7 +1,5 @@
 use Prim.Native.Nat.{◌-◌}
-use native.Mathlib.Omega.{arith}
-use borrow.Author.Rules.{rules}
-use Rattle.seam.proofs.Spans.{Passing, passing, passing_turn, passing-end}
+use Rattle.seam.proofs.Spans.{Passing}
 use Rattle.seam.proofs.gap.widest_gap.Given as goal
 
 abbrev pub invariant-loop-i : goal.invariant-loop-i

@@ -1,5 +1,4 @@
 use Rattle.starts.proofs.Laws.{given-few, given_more}
-use borrow.Author.Rules.{rules}
 use Rattle.starts.proofs.trials.as_given_backward.Goals as goal
 
 pub returns-then-count-le3 : goal.returns-then-count-le3

@@ -1,5 +1,4 @@
 use Rattle.starts.proofs.Laws.{first_in}
-use borrow.Author.Rules.{rules}
 use Rattle.starts.proofs.trials.first_into.Goals as goal
 
 pub returns : goal.returns

@@ -1,6 +1,4 @@
-use Prim.Native.Nat.{◌-◌}
 use native.Mathlib.Omega.{arith}
-use Rattle.tables.specs.Rows.{rows}
 use borrow.Author.Rules.{rules}
 use Rattle.starts.proofs.Laws as laws
 use Rattle.starts.proofs.trials.first_serving.Goals as goal

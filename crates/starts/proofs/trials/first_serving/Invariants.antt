@@ -1,7 +1,5 @@
 use Prim.Native.Nat.{◌-◌}
-use native.Mathlib.Omega.{arith}
 use Rattle.tables.specs.Rows.{rows}
-use borrow.Author.Rules.{rules}
 use Rattle.starts.proofs.Laws as laws
 use Rattle.starts.proofs.trials.first_serving.Given as goal
 

@@ -1,6 +1,5 @@
 use mathlib.Core.Bool.{true, false}
 use Rattle.starts.proofs.Laws.{not_searched_lem, one-served, none-served}
-use borrow.Author.Rules.{rules}
 use Rattle.starts.proofs.trials.search_tables.Goals as goal
 
 pub returns-then-trial-count : goal.returns-then-trial-count

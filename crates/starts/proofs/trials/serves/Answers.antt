@@ -1,6 +1,5 @@
 use Rattle.starts.proofs.Laws.{trial_backward, trial_both}
 use Rattle.tables.specs.Rows.{rows}
-use borrow.Author.Rules.{rules}
 use Rattle.starts.proofs.trials.serves.Goals as goal
 
 pub returns-then-begins_backward : goal.returns-then-begins_backward

@@ -3,7 +3,6 @@ use Rattle.tables.specs.Corners.{us}
 use Rattle.tables.specs.Rows.{rows}
 use Rattle.rings.specs.Starts.{first_for}
 use Rattle.starts.proofs.Laws.{length-first, part_written}
-use borrow.Author.Rules.{rules}
 use Rattle.starts.proofs.trials.try_first.Goals as goal
 
 pub returns : goal.returns

@@ -4,7 +4,6 @@ use Rattle.tables.specs.Corners.{us}
 use Rattle.tables.specs.Rows.{rows}
 use Rattle.rings.specs.Starts.{later_for}
 use Rattle.starts.proofs.Laws.{length-later, part_written}
-use borrow.Author.Rules.{rules}
 use Rattle.starts.proofs.trials.try_later.Goals as goal
 
 pub returns : goal.returns

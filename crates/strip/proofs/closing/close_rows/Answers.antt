@@ -1,5 +1,4 @@
 use Rattle.strip.proofs.closing.Laws as laws
-use borrow.Author.Rules.{rules}
 use Rattle.strip.proofs.closing.close_rows.Goals as goal
 
 pub returns : goal.returns

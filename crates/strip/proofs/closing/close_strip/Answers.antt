@@ -1,6 +1,5 @@
 use Rattle.tables.specs.Rows.{rows}
 use Rattle.strip.proofs.closing.Laws as laws
-use borrow.Author.Rules.{rules}
 use Rattle.strip.proofs.closing.close_strip.Goals as goal
 
 pub returns-then-shorter-n : goal.returns-then-shorter-n

@@ -1,7 +1,4 @@
-use borrow.Author.Rules.{rules}
 use Prim.Native.Nat.{◌-◌}
-use mathlib.Core.Path.{◌∙◌}
-use native.Mathlib.Omega.{arith}
 use Rattle.tables.specs.Rows.{rows, corner_of}
 use Rattle.strip.specs.Corners.{strip_with}
 use Rattle.strip.proofs.repeats.Laws as laws

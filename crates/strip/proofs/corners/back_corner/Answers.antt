@@ -1,6 +1,5 @@
 use Rattle.tables.specs.Rows.{rows, none}
 use Rattle.strip.proofs.corners.Laws as laws
-use borrow.Author.Rules.{rules}
 use Rattle.strip.proofs.corners.back_corner.Goals as goal
 
 pub returns-then-i-m : goal.returns-then-i-m

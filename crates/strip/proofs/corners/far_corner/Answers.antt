@@ -1,6 +1,5 @@
 use Rattle.tables.specs.Rows.{rows}
 use Rattle.strip.proofs.corners.Laws as laws
-use borrow.Author.Rules.{rules}
 use Rattle.strip.proofs.corners.far_corner.Goals as goal
 
 pub returns-then-i-k : goal.returns-then-i-k

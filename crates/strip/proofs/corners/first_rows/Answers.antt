@@ -1,7 +1,6 @@
 use native.Mathlib.Omega.{arith}
 use Rattle.tables.proofs.Rows.{length-rows}
 use Rattle.strip.proofs.corners.Laws as laws
-use borrow.Author.Rules.{rules}
 use Rattle.strip.proofs.corners.first_rows.Goals as goal
 
 pub slice_bounds-result-end : goal.slice_bounds-result-end

@@ -1,6 +1,5 @@
 use Rattle.tables.specs.Rows.{rows, none}
 use Rattle.strip.proofs.corners.Laws as laws
-use borrow.Author.Rules.{rules}
 use Rattle.strip.proofs.corners.from_end.Goals as goal
 
 pub returns-then-i-n : goal.returns-then-i-n

@@ -1,7 +1,6 @@
 use mathlib.Core.Path.{◌∙◌}
 use Rattle.tables.proofs.Rows.{u-at}
 use Rattle.strip.proofs.corners.Laws as laws
-use borrow.Author.Rules.{rules}
 use Rattle.strip.proofs.corners.strip_corner.Goals as goal
 
 pub returns-then-i-n : goal.returns-then-i-n

@@ -1,5 +1,4 @@
 use Rattle.strip.proofs.corners.Laws as laws
-use borrow.Author.Rules.{rules}
 use Rattle.strip.proofs.corners.strip_rows.Goals as goal
 
 pub returns-then-shorter-eq0 : goal.returns-then-shorter-eq0

@@ -1,4 +1,3 @@
-use borrow.Author.Rules.{rules}
 use Rattle.strip.proofs.count.Laws as laws
 use Rattle.strip.proofs.count.strip_count.Goals as goal
 

@@ -1,8 +1,5 @@
 use mathlib.Core.Bool.{not}
 use Rattle.std.proofs.Common.{ap}
-use borrow.Author.Rules.{rules}
-use native.Mathlib.Omega.{arith}
-use Rattle.tables.specs.Rows.{rows}
 use Rattle.strip.proofs.repeats.Laws as laws
 use Rattle.strip.proofs.repeats.trim.Goals as goal
 

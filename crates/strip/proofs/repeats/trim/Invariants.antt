@@ -1,5 +1,3 @@
-use borrow.Author.Rules.{rules}
-use native.Mathlib.Omega.{arith}
 use Rattle.tables.specs.Rows.{rows}
 use Rattle.strip.proofs.repeats.Laws as laws
 use Rattle.strip.proofs.repeats.trim.Given as goal

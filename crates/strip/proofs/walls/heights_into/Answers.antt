@@ -2,7 +2,6 @@ use mathlib.Core.Path.{sym}
 use native.Mathlib.Omega.{arith}
 use lib.Seq.{length-take-le}
 use Rattle.strip.proofs.walls.Laws as laws
-use borrow.Author.Rules.{rules}
 use Rattle.strip.proofs.walls.heights_into.Goals as goal
 
 pub returns-then-dst-n : goal.returns-then-dst-n

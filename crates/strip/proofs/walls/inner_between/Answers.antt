@@ -1,7 +1,6 @@
 use mathlib.Core.Path.{◌∙◌}
 use Rattle.tables.proofs.Rows.{v-at}
 use Rattle.strip.proofs.walls.Raising as laws
-use borrow.Author.Rules.{rules}
 use Rattle.strip.proofs.walls.inner_between.Goals as goal
 
 pub returns-then-shorter-eq0 : goal.returns-then-shorter-eq0

@@ -1,5 +1,4 @@
 use Rattle.strip.proofs.walls.Laws as laws
-use borrow.Author.Rules.{rules}
 use Rattle.strip.proofs.walls.ladder_into.Goals as goal
 
 pub returns : goal.returns

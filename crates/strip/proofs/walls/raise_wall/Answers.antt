@@ -4,7 +4,6 @@ use Rattle.strip.specs.Corners.{row_on, heights_between}
 use mathlib.Core.Path.{◌∙◌}
 use Rattle.tables.proofs.Rows.{u-at, v-at}
 use Rattle.strip.proofs.walls.Raising as laws
-use borrow.Author.Rules.{rules}
 use Rattle.strip.proofs.walls.raise_wall.Goals as goal
 
 pub returns-then-n-eq0 : goal.returns-then-n-eq0

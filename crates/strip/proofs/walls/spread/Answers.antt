@@ -1,9 +1,6 @@
-use borrow.Author.Rules.{rules}
 use Prim.Native.Nat.{◌-◌}
-use native.Mathlib.Omega.{arith}
 use lib.Ieee.{nan}
 use lib.ListN.{get_or}
-use Rattle.strip.specs.Corners.{row_on}
 use Rattle.strip.proofs.walls.Raising as laws
 use Rattle.strip.proofs.walls.spread.Goals as goal
 

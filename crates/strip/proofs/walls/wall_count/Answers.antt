@@ -2,7 +2,6 @@ use mathlib.Core.Path.{ap, ◌∙◌}
 use lib.ListN.{length}
 use Rattle.bands.proofs.Walls.{heights-kept}
 use Rattle.strip.proofs.walls.Laws as laws
-use borrow.Author.Rules.{rules}
 use Rattle.strip.proofs.walls.wall_count.Goals as goal
 
 pub returns : goal.returns

@@ -1,5 +1,4 @@
 use Rattle.surfaces.proofs.knots.Laws as laws
-use Rattle.std.proofs.Common.{rules}
 use Rattle.surfaces.proofs.knots.division.Goals as goal
 
 pub returns : goal.returns

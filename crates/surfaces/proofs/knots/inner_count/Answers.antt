@@ -1,4 +1,4 @@
-use Rattle.std.proofs.Common.{length, ap, ◌∙◌, rules}
+use Rattle.std.proofs.Common.{length, ap, ◌∙◌}
 use Rattle.surfaces.proofs.knots.Inner as laws
 use Rattle.surfaces.proofs.knots.Rungs.{inner-kept, inner-end}
 use Rattle.surfaces.proofs.knots.inner_count.Goals as goal

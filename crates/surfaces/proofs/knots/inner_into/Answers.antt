@@ -1,4 +1,4 @@
-use Rattle.std.proofs.Common.{sym, ap, ◌∙◌, arith, length-take-le, rules}
+use Rattle.std.proofs.Common.{sym, ap, ◌∙◌, arith, length-take-le}
 use lib.Seq.{sets}
 use Rattle.surfaces.proofs.knots.Inner as laws
 use Rattle.surfaces.proofs.knots.Rungs.{inner-kept}

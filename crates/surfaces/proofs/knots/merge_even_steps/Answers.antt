@@ -1,6 +1,5 @@
 use mathlib.Core.Bool.{not}
 use Rattle.std.proofs.Common.{ap}
-use Rattle.std.proofs.Common.{◌-◌, arith, rules}
 use Rattle.surfaces.proofs.knots.Walk as walk
 use Rattle.surfaces.proofs.knots.merge_even_steps.Goals as goal
 

@@ -1,4 +1,4 @@
-use Rattle.std.proofs.Common.{◌-◌, arith, rules}
+use Rattle.std.proofs.Common.{◌-◌}
 use Rattle.surfaces.proofs.knots.Walk as walk
 use Rattle.surfaces.proofs.knots.merge_even_steps.Given as goal
 

@@ -1,5 +1,4 @@
 use Rattle.surfaces.proofs.knots.Walk as walk
-use Rattle.std.proofs.Common.{rules}
 use Rattle.surfaces.proofs.knots.put.Goals as goal
 
 pub returns-then-i-s : goal.returns-then-i-s

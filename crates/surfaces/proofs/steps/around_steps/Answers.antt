@@ -1,5 +1,4 @@
 use Rattle.surfaces.proofs.steps.Laws as laws
-use Rattle.std.proofs.Common.{rules}
 use Rattle.surfaces.proofs.steps.around_steps.Goals as goal
 
 pub returns-in-Sphere : goal.returns-in-Sphere

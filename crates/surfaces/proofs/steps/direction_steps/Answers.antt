@@ -1,6 +1,5 @@
 use Rattle.surfaces.specs.Steps.{direction_steps_of}
 use Rattle.surfaces.proofs.steps.Laws as laws
-use Rattle.std.proofs.Common.{rules}
 use Rattle.surfaces.proofs.steps.direction_steps.Goals as goal
 
 pub returns-in-U : goal.returns-in-U

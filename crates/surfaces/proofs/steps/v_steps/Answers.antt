@@ -1,6 +1,5 @@
 use Rattle.surfaces.specs.Steps.{v_steps_of}
 use Rattle.surfaces.proofs.steps.Laws as laws
-use Rattle.std.proofs.Common.{rules}
 use Rattle.surfaces.proofs.steps.v_steps.Goals as goal
 
 pub returns-in-Plane : goal.returns-in-Plane

@@ -1,5 +1,4 @@
 use Rattle.surfaces.proofs.surface.Laws as laws
-use Rattle.std.proofs.Common.{rules}
 use Rattle.surfaces.proofs.surface.cone_range.Goals as goal
 
 pub returns-then-tan : goal.returns-then-tan

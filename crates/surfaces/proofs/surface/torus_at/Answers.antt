@@ -1,5 +1,4 @@
 use Rattle.surfaces.proofs.surface.Laws as laws
-use Rattle.std.proofs.Common.{rules}
 use Rattle.surfaces.proofs.surface.torus_at.Goals as goal
 
 pub returns : goal.returns

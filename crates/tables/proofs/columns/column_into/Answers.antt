@@ -1,9 +1,5 @@
-use borrow.Author.Rules.{rules}
-use Prim.Native.Nat.{◌-◌}
-use Rattle.tables.specs.Columns.{entry_of}
 use Rattle.tables.specs.Rows.{corner_of}
-use Rattle.tables.proofs.Taking.{Taking, taking, taking_corner, taking_end, taking_none}
-use native.Mathlib.Omega.{arith}
+use Rattle.tables.proofs.Taking.{taking, taking_corner, taking_end, taking_none}
 use Rattle.tables.proofs.columns.column_into.Goals as goal
 
 pub returns-then-dst-n : goal.returns-then-dst-n

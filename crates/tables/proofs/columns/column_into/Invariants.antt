@@ -1,9 +1,6 @@
-use borrow.Author.Rules.{rules}
 use Prim.Native.Nat.{◌-◌}
 use Rattle.tables.specs.Columns.{entry_of}
-use Rattle.tables.specs.Rows.{corner_of}
-use Rattle.tables.proofs.Taking.{Taking, taking, taking_corner, taking_end, taking_none}
-use native.Mathlib.Omega.{arith}
+use Rattle.tables.proofs.Taking.{Taking}
 use Rattle.tables.proofs.columns.column_into.Given as goal
 
 abbrev pub invariant-loop-i : goal.invariant-loop-i

@@ -1,4 +1,3 @@
-use borrow.Author.Rules.{rules}
 use Rattle.tables.proofs.columns.columns_into.Goals as goal
 
 pub returns : goal.returns

@@ -1,7 +1,5 @@
-use borrow.Author.Rules.{rules}
 use Prim.Native.Nat.{◌-◌}
-use Rattle.tables.proofs.Putting.{Putting, putting, putting_turn, putting_end, putting_none}
-use native.Mathlib.Omega.{arith}
+use Rattle.tables.proofs.Putting.{Putting}
 use Rattle.tables.proofs.columns.rows_from.Given as goal
 
 abbrev pub invariant-loop-i : goal.invariant-loop-i

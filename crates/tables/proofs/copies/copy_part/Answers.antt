@@ -1,7 +1,6 @@
 use Rattle.tables.proofs.PartRows.{copied, copied_none}
 use Rattle.tables.proofs.Rows.{length-rows}
 use native.Mathlib.Omega.{arith}
-use borrow.Author.Rules.{rules}
 use Rattle.tables.proofs.copies.copy_part.Goals as goal
 
 pub returns-then-count-at : goal.returns-then-count-at

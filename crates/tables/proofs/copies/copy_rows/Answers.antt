@@ -1,5 +1,4 @@
 use Rattle.tables.proofs.PartRows.{copied_all}
-use borrow.Author.Rules.{rules}
 use Rattle.tables.proofs.copies.copy_rows.Goals as goal
 
 pub returns : goal.returns

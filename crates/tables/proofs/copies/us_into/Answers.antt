@@ -1,9 +1,4 @@
-use Prim.Native.Nat.{◌-◌}
-use Rattle.tables.proofs.Taking.{Taking, taking, taking_turn, taking_end, taking_none}
-use Rattle.numbers.specs.declared.math.Vec3.{Vec3}
-use Rattle.tables.specs.Corners.{Corner}
-use borrow.Author.Rules.{rules}
-use native.Mathlib.Omega.{arith}
+use Rattle.tables.proofs.Taking.{taking, taking_turn, taking_end, taking_none}
 use Rattle.tables.proofs.copies.us_into.Goals as goal
 
 pub returns-then-dst-n : goal.returns-then-dst-n

@@ -1,7 +1,6 @@
 use Rattle.tables.proofs.Rows.{row_at, row-past}
 use lib.Ieee.{div, of_bits}
 use mathlib.Core.Path.{refl, sym}
-use borrow.Author.Rules.{rules}
 use Rattle.tables.proofs.corners.corner_at.Goals as goal
 
 pub returns-then-i-t : goal.returns-then-i-t

@@ -2,7 +2,6 @@ use Rattle.tables.proofs.Rows.{rows_stored, set_past}
 use Rattle.tables.specs.Rows.{corner_of}
 use lib.ListN.{length-set}
 use native.Mathlib.Omega.{arith}
-use borrow.Author.Rules.{rules}
 use Rattle.tables.proofs.corners.put_corner.Goals as goal
 
 pub bounds-t-p-then-i-t : goal.bounds-t-p-then-i-t

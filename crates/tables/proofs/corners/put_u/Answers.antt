@@ -1,5 +1,4 @@
 use Rattle.tables.proofs.Rows.{rows-set-u, set_past}
-use borrow.Author.Rules.{rules}
 use Rattle.tables.proofs.corners.put_u.Goals as goal
 
 pub returns-then-i-t : goal.returns-then-i-t

@@ -1,7 +1,6 @@
 use Rattle.tables.proofs.Rows.{u-at-place, u-at-past}
 use lib.Ieee.{div, of_bits}
 use mathlib.Core.Path.{sym}
-use borrow.Author.Rules.{rules}
 use Rattle.tables.proofs.corners.u_at.Goals as goal
 
 pub returns-then-i-t : goal.returns-then-i-t

@@ -1,9 +1,5 @@
-use Prim.Native.Nat.{◌-◌}
-use Rattle.tables.specs.Corners.{move_u}
-use Rattle.tables.specs.Moves.{moved_by}
-use Rattle.tables.proofs.InPlace.{Changing, changing, moving_turn, changing_end}
+use Rattle.tables.proofs.InPlace.{changing, moving_turn, changing_end}
 use borrow.Author.Rules.{rules}
-use native.Mathlib.Omega.{arith}
 use Rattle.tables.proofs.moves.move_u.Goals as goal
 
 pub loop-i-init : goal.loop-i-init

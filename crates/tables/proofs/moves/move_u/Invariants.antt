@@ -1,9 +1,7 @@
 use Prim.Native.Nat.{◌-◌}
 use Rattle.tables.specs.Corners.{move_u}
 use Rattle.tables.specs.Moves.{moved_by}
-use Rattle.tables.proofs.InPlace.{Changing, changing, moving_turn, changing_end}
-use borrow.Author.Rules.{rules}
-use native.Mathlib.Omega.{arith}
+use Rattle.tables.proofs.InPlace.{Changing}
 use Rattle.tables.proofs.moves.move_u.Given as goal
 
 abbrev pub invariant-loop-i : goal.invariant-loop-i

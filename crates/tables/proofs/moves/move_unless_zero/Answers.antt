@@ -1,5 +1,4 @@
 use Rattle.tables.proofs.Unless.{moved_unless, stays_if}
-use borrow.Author.Rules.{rules}
 use Rattle.tables.proofs.moves.move_unless_zero.Goals as goal
 
 pub returns-then-step : goal.returns-then-step

@@ -1,10 +1,7 @@
-use borrow.Author.Rules.{rules}
 use Prim.Native.Nat.{◌-◌}
-use native.Mathlib.Omega.{arith}
 use Rattle.tables.specs.Corners.{move_v}
 use Rattle.tables.specs.Moves.{moved_by}
-use Rattle.tables.specs.Rows.{corner_of}
-use Rattle.tables.proofs.InPlace.{Changing, changing, changing_turn, changing_end, moved_v}
+use Rattle.tables.proofs.InPlace.{Changing}
 use Rattle.tables.proofs.moves.move_v.Given as goal
 
 abbrev pub invariant-loop-i : goal.invariant-loop-i

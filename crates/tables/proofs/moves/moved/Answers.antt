@@ -1,7 +1,6 @@
 use mathlib.Core.Path.{sym, ap}
 use Rattle.tables.specs.declared.moves.Move.{Move}
 use Rattle.tables.specs.Moves.{moved_by}
-use borrow.Author.Rules.{rules}
 use Rattle.tables.proofs.moves.moved.Goals as goal
 
 pub returns-in-Up : goal.returns-in-Up

@@ -1,7 +1,5 @@
-use Prim.Native.Nat.{◌-◌}
-use Rattle.tables.proofs.InPlace.{Turning, turning, turning_turn, turning_end}
+use Rattle.tables.proofs.InPlace.{turning, turning_turn, turning_end}
 use borrow.Author.Rules.{rules}
-use native.Mathlib.Omega.{arith}
 use Rattle.tables.proofs.moves.reverse_rows.Goals as goal
 
 pub loop-i-init : goal.loop-i-init

@@ -1,7 +1,5 @@
 use Prim.Native.Nat.{◌-◌}
-use Rattle.tables.proofs.InPlace.{Turning, turning, turning_turn, turning_end}
-use borrow.Author.Rules.{rules}
-use native.Mathlib.Omega.{arith}
+use Rattle.tables.proofs.InPlace.{Turning}
 use Rattle.tables.proofs.moves.reverse_rows.Given as goal
 
 abbrev pub invariant-loop-i : goal.invariant-loop-i

@@ -1,5 +1,4 @@
 use Rattle.tables.proofs.InPlace.{swap_is}
-use borrow.Author.Rules.{rules}
 use Rattle.tables.proofs.moves.swap_rows.Goals as goal
 
 pub returns : goal.returns

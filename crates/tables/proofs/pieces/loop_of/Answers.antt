@@ -1,7 +1,4 @@
-use Prim.Native.Nat.{◌-◌}
-use Rattle.tables.proofs.PartRows.{Passing, passing, passing_turn, passing-end, loop_past}
-use borrow.Author.Rules.{rules}
-use native.Mathlib.Omega.{arith}
+use Rattle.tables.proofs.PartRows.{passing, passing_turn, passing-end, loop_past}
 use Rattle.tables.proofs.pieces.loop_of.Goals as goal
 
 pub returns-then-counts-k : goal.returns-then-counts-k

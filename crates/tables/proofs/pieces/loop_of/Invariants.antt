@@ -1,7 +1,5 @@
 use Prim.Native.Nat.{◌-◌}
-use Rattle.tables.proofs.PartRows.{Passing, passing, passing_turn, passing-end, loop_past}
-use borrow.Author.Rules.{rules}
-use native.Mathlib.Omega.{arith}
+use Rattle.tables.proofs.PartRows.{Passing}
 use Rattle.tables.proofs.pieces.loop_of.Given as goal
 
 abbrev pub invariant-loop-i : goal.invariant-loop-i

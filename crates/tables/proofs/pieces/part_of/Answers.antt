@@ -1,7 +1,6 @@
 use Rattle.tables.proofs.Rows.{length-rows}
 use Rattle.tables.proofs.PartRows.{part_past, part_there}
 use native.Mathlib.Omega.{arith}
-use borrow.Author.Rules.{rules}
 use Rattle.tables.proofs.pieces.part_of.Goals as goal
 
 pub returns-then-all-from : goal.returns-then-all-from

@@ -1,5 +1,4 @@
 use mathlib.Core.Path.{sym, ◌∙◌}
-use borrow.Author.Rules.{rules}
 use lib.Ieee.{nan}
 use lib.ListN.{get_or-eq_default}
 use Rattle.tables.proofs.slices.Laws as laws

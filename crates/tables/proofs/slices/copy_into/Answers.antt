@@ -1,9 +1,6 @@
 use mathlib.Core.Bool.{not}
 use Rattle.std.proofs.Common.{ap}
-use Prim.Native.Nat.{◌-◌}
 use mathlib.Core.Path.{refl}
-use native.Mathlib.Omega.{arith}
-use borrow.Author.Rules.{rules}
 use Rattle.tables.proofs.slices.Laws as laws
 use Rattle.tables.proofs.slices.copy_into.Goals as goal
 

@@ -1,7 +1,4 @@
 use Prim.Native.Nat.{◌-◌}
-use mathlib.Core.Path.{refl}
-use native.Mathlib.Omega.{arith}
-use borrow.Author.Rules.{rules}
 use Rattle.tables.proofs.slices.Laws as laws
 use Rattle.tables.proofs.slices.copy_into.Given as goal
 

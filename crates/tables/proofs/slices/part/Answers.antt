@@ -1,6 +1,5 @@
 use mathlib.Core.Path.{refl}
 use Rattle.tables.proofs.slices.Parts.{part_past, part_rest, part_within}
-use borrow.Author.Rules.{rules}
 use Rattle.tables.proofs.slices.part.Goals as goal
 
 pub returns-then-n-start : goal.returns-then-n-start

@@ -1,5 +1,4 @@
 use Rattle.wrapped_region.proofs.mean.Laws.{mean_none, mean_some}
-use Rattle.std.proofs.Common.{rules}
 use Rattle.wrapped_region.proofs.mean.mean_v.Goals as goal
 
 pub returns-then-n-eq0 : goal.returns-then-n-eq0

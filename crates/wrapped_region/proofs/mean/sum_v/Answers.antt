@@ -1,10 +1,7 @@
-use Rattle.std.proofs.Common.{◌≡◌, ◌-◌, length, ap, arith, rules}
-use lib.Ieee.{Float, nan, neg}
-use Rattle.lists.proofs.Folds.{Folding, folding, folding_turn, folding_end}
-use Rattle.numbers.specs.Constants.{plus_zero}
+use Rattle.std.proofs.Common.{ap, arith}
+use lib.Ieee.{Float, nan}
+use Rattle.lists.proofs.Folds.{folding, folding_turn, folding_end}
 use Rattle.numbers.specs.Rounded.{◌⊕◌}
-use Rattle.tables.specs.Corners.{vs}
-use Rattle.tables.specs.Rows.{rows}
 use Rattle.loops.specs.Mean.{sum_of}
 use Rattle.wrapped_region.proofs.mean.Laws.{count-v}
 use Rattle.wrapped_region.proofs.mean.sum_v.Goals as goal

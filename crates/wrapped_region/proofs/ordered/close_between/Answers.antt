@@ -1,6 +1,5 @@
 use Rattle.tables.specs.Rows.{rows}
 use Rattle.wrapped_region.proofs.ordered.Laws.{between}
-use Rattle.std.proofs.Common.{rules}
 use Rattle.wrapped_region.proofs.ordered.close_between.Goals as goal
 
 pub returns : goal.returns

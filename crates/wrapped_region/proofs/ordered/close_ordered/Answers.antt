@@ -1,4 +1,4 @@
-use Rattle.std.proofs.Common.{refl, rules}
+use Rattle.std.proofs.Common.{refl}
 use Rattle.wrapped_region.specs.Rings.{rings_of}
 use Rattle.wrapped_region.proofs.ordered.Laws.{ordered_first, ordered_later}
 use Rattle.wrapped_region.proofs.ordered.close_ordered.Goals as goal

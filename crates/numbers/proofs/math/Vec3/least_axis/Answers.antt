@@ -1,5 +1,4 @@
 use Rattle.numbers.proofs.math.Laws as laws
-use Rattle.std.proofs.Common.{rules}
 use Rattle.numbers.proofs.math.Vec3.least_axis.Goals as goal
 
 pub returns : goal.returns

@@ -1,5 +1,4 @@
 use Rattle.numbers.specs.Vectors.{length_of}
-use Rattle.std.proofs.Common.{rules}
 use Rattle.numbers.proofs.math.Vec3.length.Goals as goal
 
 pub returns : goal.returns

@@ -1,5 +1,4 @@
 use Rattle.numbers.proofs.math.Laws as laws
-use Rattle.std.proofs.Common.{rules}
 use Rattle.numbers.proofs.math.Vec3.try_normalized.Goals as goal
 
 pub returns-then-n-2 : goal.returns-then-n-2

@@ -1,5 +1,4 @@
 use Rattle.surfaces.proofs.options.Laws as laws
-use Rattle.std.proofs.Common.{rules}
 use Rattle.surfaces.proofs.options.Resolved.angle_step_for_radius.Goals as goal
 
 pub returns : goal.returns

@@ -1,5 +1,4 @@
 use Rattle.surfaces.proofs.options.Laws as laws
-use Rattle.std.proofs.Common.{rules}
 use Rattle.surfaces.proofs.options.Resolved.sag_angle.Goals as goal
 
 pub returns-then-r-self : goal.returns-then-r-self

@@ -1,5 +1,4 @@
 use Rattle.surfaces.proofs.options.Laws as laws
-use Rattle.std.proofs.Common.{rules}
 use Rattle.surfaces.proofs.options.Resolved.segments_for_arc.Goals as goal
 
 pub returns : goal.returns

@@ -1,5 +1,4 @@
 use Rattle.surfaces.specs.Domains.{domain_of}
-use Rattle.std.proofs.Common.{rules}
 use Rattle.surfaces.proofs.surface.Surface.domain.Goals as goal
 
 pub returns : goal.returns

@@ -1,6 +1,5 @@
 use Rattle.surfaces.specs.Points.{point_of}
 use Rattle.surfaces.proofs.surface.Laws as laws
-use Rattle.std.proofs.Common.{rules}
 use Rattle.surfaces.proofs.surface.Surface.point_at.Goals as goal
 
 pub returns-in-Plane : goal.returns-in-Plane

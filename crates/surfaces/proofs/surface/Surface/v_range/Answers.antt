@@ -1,4 +1,4 @@
-use Rattle.std.proofs.Common.{sym, ap, ◌∙◌, rules}
+use Rattle.std.proofs.Common.{sym, ap, ◌∙◌}
 use Rattle.surfaces.specs.Domains.{v_range, cone_range}
 use Rattle.surfaces.proofs.surface.Surface.v_range.Goals as goal
 
