@@ -15,7 +15,7 @@ ghost use Rattle.loop_records.specs.Loops.{records_from};
 ghost use Rattle.filling.specs.Filled.{read_many, FillsTo};
 ghost use Rattle.filling.specs.Stages.{ReadAs};
 
-use super::rings::check_rings;
+use super::ring_refusals::check_rings;
 use super::verdict::{Verdict, check_record};
 use super::{fill_band, fill_closed, fill_whole};
 use loop_records::measure::measure_loops;

@@ -48,7 +48,7 @@ use wrapped_region::order::goes_with;
 use wrapped_region::ordered::close_ordered;
 
 pub mod face;
-pub mod rings;
+pub mod ring_refusals;
 pub mod verdict;
 
 // A store at i, and none past the end.

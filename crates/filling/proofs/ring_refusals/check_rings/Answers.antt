@@ -1,5 +1,5 @@
 use Rattle.filling.proofs.Refused.{refused_8, refused_9, refused_10, refused_11, rings_pass}
-use Rattle.filling.proofs.rings.check_rings.Goals as goal
+use Rattle.filling.proofs.ring_refusals.check_rings.Goals as goal
 
 pub returns-in-At : goal.returns-in-At
 returns-in-At c = refused_8 _ _ _ _ _ c.open_ring.ensures _ c.in-At.is
