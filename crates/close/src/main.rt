@@ -88,7 +88,7 @@ fn read_input(input: &mut Stdin, bytes: &mut [u8]) -> Input
 fn answer_input(face: &[u8; READ], n: usize, out: &mut [u8; LENT]) -> usize
     requires { n ≤ length face.now }
     ensures upper_bound { result ≤ length out.new }
-    ensures by_index { (input : List ℕ) → take n face.now ≡ take (length face.now) input
+    ensures for_every_input { (input : List ℕ) → take n face.now ≡ take (length face.now) input
         → (take result out.new ≡ output (judge version1.result input)) × FoundIn (judge version1.result input) out.old out.new }
 {
     let bytes: &[u8] = face;

@@ -170,7 +170,7 @@ pub extern "C" fn compared_inner_into(lo: f64, hi: f64, n: usize, out: &mut [f64
     ensures value { result ≡ length (inner (rungs lo hi n)) }
     ensures out_after { out.new ≡ sets out.old 0 (inner (rungs lo hi n)) }
     ensures ends_on { EndsOn lo hi (result + 1) (rungs lo hi n) }
-    ensures out_after_2 { out.new ≡ sets out.old 0 (inner (kept_divisions lo hi n)) }
+    ensures out_as_kept { out.new ≡ sets out.old 0 (inner (kept_divisions lo hi n)) }
 {
     surfaces::knots::inner_into(lo, hi, n, out)
 }

@@ -92,8 +92,8 @@ fn rooted(m: u64, k: u64) -> f64
 }
 
 fn positive(x: f64) -> f64
-    requires fact_1 { T (Ieee.lt (fin false 0 (pos 0)) x) }
-    requires fact_2 { T (Ieee.lt x (inf false)) }
+    requires above_zero { T (Ieee.lt (fin false 0 (pos 0)) x) }
+    requires below_infinity { T (Ieee.lt x (inf false)) }
     ensures { result ≡ sqrt_of x }
 {
     let b = f64::to_bits(x);

@@ -19,7 +19,7 @@ use tables::slices::shorter;
 // How many corners a wall has between the two rings. 02, N2 changes neither them nor their heights.
 pub fn wall_count(surface: Surface, options: Resolved, lower: f64, upper: f64) -> usize
     ensures value { result ≡ length (heights_on surface options lower upper) }
-    ensures value_2 { result ≡ length (heights_kept surface options lower upper) }
+    ensures as_kept { result ≡ length (heights_kept surface options lower upper) }
 {
     let lo = min(lower, upper);
     let hi = max(lower, upper);
@@ -40,7 +40,7 @@ fn ladder_into(dst: &mut [f64], surface: Surface, options: Resolved, a: f64, b: 
 // heights to the bit.
 pub fn heights_into(dst: &mut [f64], surface: Surface, options: Resolved, lower: f64, upper: f64)
     ensures dst_after { dst.new ≡ placed 0 (heights_on surface options lower upper) dst.old }
-    ensures dst_after_2 { dst.new ≡ placed 0 (heights_kept surface options lower upper) dst.old }
+    ensures dst_as_kept { dst.new ≡ placed 0 (heights_kept surface options lower upper) dst.old }
 {
     let n = wall_count(surface, options, lower, upper);
     if dst.len() < n {

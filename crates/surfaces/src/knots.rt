@@ -98,7 +98,7 @@ fn less_one(k: usize) -> usize
 pub fn inner_count(lo: f64, hi: f64, n: usize) -> usize
     ensures value { result ≡ length (inner (rungs lo hi n)) }
     ensures ends_on { EndsOn lo hi (result + 1) (rungs lo hi n) }
-    ensures value_2 { result ≡ length (inner (kept_divisions lo hi n)) }
+    ensures as_kept { result ≡ length (inner (kept_divisions lo hi n)) }
 {
     less_one(merge_even_steps(lo, hi, n))
 }
@@ -109,7 +109,7 @@ pub fn inner_into(lo: f64, hi: f64, n: usize, out: &mut [f64]) -> usize
     ensures value { result ≡ length (inner (rungs lo hi n)) }
     ensures out_after { out.new ≡ sets out.old 0 (inner (rungs lo hi n)) }
     ensures ends_on { EndsOn lo hi (result + 1) (rungs lo hi n) }
-    ensures out_after_2 { out.new ≡ sets out.old 0 (inner (kept_divisions lo hi n)) }
+    ensures out_as_kept { out.new ≡ sets out.old 0 (inner (kept_divisions lo hi n)) }
 {
     let m = inner_count(lo, hi, n);
     if m < out.len() {

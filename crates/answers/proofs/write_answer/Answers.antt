@@ -12,7 +12,12 @@ returns-in-Closed c = let given = c.args in
     let call = c.close_face-answer.ensures in
     let told = c.in-Closed.is in
     let wrote = closed-written o call.value old call.res_after told (search rules) in
-    record { value = wrote.0; out_after = wrote.1; found_in = found_in o old wrote.1 (four-bytes_hold o given.face.now old call.value call.demand1) }
+    record {
+      value = wrote.0;
+      out_after = wrote.1;
+      found_in = found_in o old wrote.1
+          (four-bytes_hold o given.face.now old call.value call.demand1);
+    }
 
 pub returns-in-Refused : goal.returns-in-Refused
 returns-in-Refused c = let given = c.args in
@@ -21,4 +26,9 @@ returns-in-Refused c = let given = c.args in
     let call = c.close_face-answer.ensures in
     let told = c.in-Refused.is in
     let wrote = refused_written o call.value old call.res_after told (c.write_refusal.ensures.value, c.write_refusal.ensures.out_after) in
-    record { value = wrote.0; out_after = wrote.1; found_in = found_in o old wrote.1 (four-bytes_hold o given.face.now old call.value call.demand1) }
+    record {
+      value = wrote.0;
+      out_after = wrote.1;
+      found_in = found_in o old wrote.1
+          (four-bytes_hold o given.face.now old call.value call.demand1);
+    }

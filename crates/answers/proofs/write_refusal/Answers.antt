@@ -6,4 +6,5 @@ returns-then-out-lt6 c = let r = six_short c.args.out.now _ _ c.if-out-lt6.true 
 
 pub returns : goal.returns
 returns c = let given = c.args in
-    let r = six_written given.out.now given.number given.place c.if-out-lt6.false c.put_refusal.ensures in record { value = r.0; out_after = r.1 }
+    let r = six_written given.out.now given.number given.place c.if-out-lt6.false c.put_refusal.ensures in
+    record { value = r.0; out_after = r.1 }

@@ -20,5 +20,5 @@ returns c = let given = c.args in
     let enough : length given.face.now ≡ 20622 = search rules in
     record {
       upper_bound = within read old full answered.value left;
-      by_index = λ input first. of_all read old full answered.value left input enough first found;
+      for_every_input = λ input first. of_all read old full answered.value left input enough first found;
     }

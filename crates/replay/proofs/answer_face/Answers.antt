@@ -24,4 +24,5 @@ pub slice_bounds-six-end : goal.slice_bounds-six-end
 slice_bounds-six-end c = wrote_within _ _ (c.write_refusal-length.ensures.value, c.write_refusal-length.ensures.out_after)
 
 pub slice_bounds-write_stored-end-in-Refused : goal.slice_bounds-write_stored-end-in-Refused
-slice_bounds-write_stored-end-in-Refused c = sym (length-take-le _ _ (wrote_within _ _ (c.write_refusal-length.ensures.value, c.write_refusal-length.ensures.out_after)))
+slice_bounds-write_stored-end-in-Refused c =
+    sym (length-take-le _ _ (wrote_within _ _ (c.write_refusal-length.ensures.value, c.write_refusal-length.ensures.out_after)))

@@ -25,5 +25,6 @@ put_result-requires c = whole.fitting
 pub returns : goal.returns
 returns c = whole.done
     (whole.sized _ c.in-Takes.is c.result_size-size.ensures)
-    (whole.fitting (whole.sized _ c.in-Takes.is c.result_size-size.ensures) c.if-out-length.false c.if-areas-counts.false c.count.ensures.0 c.if-count-corners.false)
+    (whole.fitting (whole.sized _ c.in-Takes.is c.result_size-size.ensures) c.if-out-length.false c.if-areas-counts.false c.count.ensures.0
+    c.if-count-corners.false)
     c.path_byte.ensures c.put_result.ensures

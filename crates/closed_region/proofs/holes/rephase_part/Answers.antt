@@ -21,4 +21,10 @@ pub slice_bounds-rephase_hole-end : goal.slice_bounds-rephase_hole-end
 slice_bounds-rephase_hole-end c = omega (arith, length-rows c.args.t.now)
 
 pub returns : goal.returns
-returns c = record { value = c.rephase_hole.ensures.value ∙ ap (λ (l : Corners Vec3). rephased_area c.args.b l c.args.area) (rows_part c.args.from c.args.to c.args.t.now); t_after = part_rows (rephased_corners c.args.b) c.args.from c.args.to c.args.t.now _ c.requires.0 c.requires.1 c.rephase_hole.ensures.t_after (search rules) }
+returns c =
+    record {
+      value = c.rephase_hole.ensures.value ∙ ap (λ (l : Corners Vec3). rephased_area c.args.b l c.args.area)
+          (rows_part c.args.from c.args.to c.args.t.now);
+      t_after = part_rows (rephased_corners c.args.b) c.args.from c.args.to c.args.t.now _
+          c.requires.0 c.requires.1 c.rephase_hole.ensures.t_after (search rules);
+    }

@@ -9,6 +9,7 @@ returns-then-box_count-n c = record {
 
 pub returns : goal.returns
 returns c = record {
-  value = by_boxes _ _ _ _ _ _ _ _ c.boxes_into.ensures c.box_count.ensures c.part-3.ensures c.if-box_count-n.false _ c.part-2.ensures c.outer_loop.ensures;
+  value = by_boxes _ _ _ _ _ _ _ _ c.boxes_into.ensures c.box_count.ensures c.part-3.ensures c.if-box_count-n.false _ c.part-2.ensures
+      c.outer_loop.ensures;
   boxes_after = c.boxes_into.ensures;
 }

@@ -4,7 +4,8 @@ use Rattle.filling.proofs.face.fill_path.Goals as goal
 pub returns-then-given-eq0 : goal.returns-then-given-eq0
 returns-then-given-eq0 c = λ a read recorded wraps_are areas_are surface_is pass.
     whole_filled _ a _ _ _ read _ _ _ _
-    (c.fill_whole.ensures _ a (no_loops _ a _ _ _ read c.if-given-eq0.true) surface_is (frame_in_lem _ a _ _ _ read _ c.frame_of.ensures) (options_in_lem _ a _ _ _ read _ c.segments.ensures _ c.options_of-options.ensures))
+    (c.fill_whole.ensures _ a (no_loops _ a _ _ _ read c.if-given-eq0.true) surface_is (frame_in_lem _ a _ _ _ read _ c.frame_of.ensures)
+    (options_in_lem _ a _ _ _ read _ c.segments.ensures _ c.options_of-options.ensures))
     c.if-given-eq0.true
 
 pub returns-then-wrapping_count-eq0 : goal.returns-then-wrapping_count-eq0
@@ -12,9 +13,12 @@ returns-then-wrapping_count-eq0 c = λ a read recorded wraps_are areas_are surfa
     let none = c.if-wrapping_count-eq0.true in
     let many = c.wrapping_count.ensures in
     closed_filled _ a _ _ _ read _ wraps_are _ many none _ _ _ _
-    (c.fill_closed.ensures _ a (some_loops _ a _ _ _ read c.if-given-eq0.false) (none-wraps _ a _ _ _ read _ wraps_are _ many none) surface_is read.counts_are read.corners_are areas_are)
+    (c.fill_closed.ensures _ a (some_loops _ a _ _ _ read c.if-given-eq0.false) (none-wraps _ a _ _ _ read _ wraps_are _ many none)
+    surface_is read.counts_are read.corners_are areas_are)
 
 pub returns : goal.returns
 returns c = λ a read recorded wraps_are areas_are surface_is pass.
-    c.fill_band.ensures _ a (band-wraps _ a _ _ _ read _ wraps_are _ c.wrapping_count.ensures pass c.if-wrapping_count-eq0.false) read.counts_are read.corners_are recorded wraps_are areas_are surface_is
-    (frame_in_lem _ a _ _ _ read _ c.frame_of-2.ensures) (options_in_lem _ a _ _ _ read _ c.segments.ensures _ c.options_of-options.ensures) (sense_in_lem _ a _ _ _ read _ c.sense.ensures)
+    c.fill_band.ensures _ a (band-wraps _ a _ _ _ read _ wraps_are _ c.wrapping_count.ensures pass c.if-wrapping_count-eq0.false)
+    read.counts_are read.corners_are recorded wraps_are areas_are surface_is
+    (frame_in_lem _ a _ _ _ read _ c.frame_of-2.ensures)
+    (options_in_lem _ a _ _ _ read _ c.segments.ensures _ c.options_of-options.ensures) (sense_in_lem _ a _ _ _ read _ c.sense.ensures)

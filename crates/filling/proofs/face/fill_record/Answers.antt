@@ -26,7 +26,9 @@ slice_bounds-measure_loops-end-2 c = sym
     (length-take-le _ _ (let b = counts_told _ _ _ _ c.read_counts.ensures _ c.read_many-l.ensures in omega (arith, c.given-2-1.given)))
 
 pub slice_bounds-corners-end-2 : goal.slice_bounds-corners-end-2
-slice_bounds-corners-end-2 c = let b = reals_told _ _ _ _ c.read_corners.ensures _ c.read_many-e.ensures in omega (arith, c.corners-2-1.given)
+slice_bounds-corners-end-2 c =
+    let b = reals_told _ _ _ _ c.read_corners.ensures _ c.read_many-e.ensures in
+    omega (arith, c.corners-2-1.given)
 
 pub slice_bounds-check_rings-end : goal.slice_bounds-check_rings-end
 slice_bounds-check_rings-end c = sym
@@ -48,11 +50,14 @@ slice_bounds-check_rings-end-3 c = sym
 
 pub returns-in-Refuses : goal.returns-in-Refuses
 returns-in-Refuses c = λ a.
-    let read = read_as _ a _ _ _ c.read_head.ensures refl c.head-2-1.given _ _ _ c.read_counts.ensures refl _ c.read_many-l.ensures _ _ _ c.read_corners.ensures refl _ c.read_many-e.ensures in
+    let read = read_as _ a _ _ _ c.read_head.ensures refl c.head-2-1.given _ _ _ c.read_counts.ensures refl _ c.read_many-l.ensures _ _ _
+    c.read_corners.ensures refl _ c.read_many-e.ensures in
     let many = counts_many _ _ _ _ c.read_counts.ensures c.given-2-1.given _ c.read_many-l.ensures in
     let surface_is = surface_in_lem _ a _ _ _ read _ c.kind.ensures _ _ c.at.ensures c.at-2.ensures _ c.surface_of-surface.ensures in
-    let wraps_are = wraps_in_lem _ a _ _ _ read _ surface_is _ c.u_period.ensures _ c.measure_loops-loops.ensures _ many _ _ (omega arith) c.wraps_of.ensures in
-    refused_as _ ring_conditions (strip_conditions version1) _ (c.check_rings-found.ensures ∙ rings_judged _ _ (held _ a _ _ _ read) _ wraps_are _ c.kind-2.ensures) _ _ c.in-Refuses.is _ _ _
+    let wraps_are = wraps_in_lem _ a _ _ _ read _ surface_is _ c.u_period.ensures _ c.measure_loops-loops.ensures _ many _ _ (omega arith)
+    c.wraps_of.ensures in
+    refused_as _ ring_conditions (strip_conditions version1) _
+    (c.check_rings-found.ensures ∙ rings_judged _ _ (held _ a _ _ _ read) _ wraps_are _ c.kind-2.ensures) _ _ c.in-Refuses.is _ _ _
 
 pub slice_bounds-fill_path-end : goal.slice_bounds-fill_path-end
 slice_bounds-fill_path-end c = sym
@@ -66,7 +71,9 @@ slice_bounds-fill_path-end-2 c = sym
     (length-take-le _ _ (let b = counts_told _ _ _ _ c.read_counts.ensures _ c.read_many-l.ensures in omega (arith, c.given-2-1.given)))
 
 pub slice_bounds-corners-end-3 : goal.slice_bounds-corners-end-3
-slice_bounds-corners-end-3 c = let b = reals_told _ _ _ _ c.read_corners.ensures _ c.read_many-e.ensures in omega (arith, c.corners-2-1.given)
+slice_bounds-corners-end-3 c =
+    let b = reals_told _ _ _ _ c.read_corners.ensures _ c.read_many-e.ensures in
+    omega (arith, c.corners-2-1.given)
 
 pub slice_bounds-fill_path-end-3 : goal.slice_bounds-fill_path-end-3
 slice_bounds-fill_path-end-3 c = sym
@@ -80,7 +87,9 @@ slice_bounds-fill_path-end-4 c = sym
     (length-take-le _ _ (let b = counts_told _ _ _ _ c.read_counts.ensures _ c.read_many-l.ensures in omega (arith, c.wraps-2-1.given)))
 
 pub slice_bounds-measured-end : goal.slice_bounds-measured-end
-slice_bounds-measured-end c = let b = counts_told _ _ _ _ c.read_counts.ensures _ c.read_many-l.ensures in omega (arith, c.measured-2-1.given)
+slice_bounds-measured-end c =
+    let b = counts_told _ _ _ _ c.read_counts.ensures _ c.read_many-l.ensures in
+    omega (arith, c.measured-2-1.given)
 
 pub slice_bounds-fill_path-end-5 : goal.slice_bounds-fill_path-end-5
 slice_bounds-fill_path-end-5 c = sym
@@ -88,12 +97,16 @@ slice_bounds-fill_path-end-5 c = sym
 
 pub returns : goal.returns
 returns c = λ a.
-    let read = read_as _ a _ _ _ c.read_head.ensures refl c.head-2-1.given _ _ _ c.read_counts.ensures refl _ c.read_many-l.ensures _ _ _ c.read_corners.ensures refl _ c.read_many-e.ensures in
+    let read = read_as _ a _ _ _ c.read_head.ensures refl c.head-2-1.given _ _ _ c.read_counts.ensures refl _ c.read_many-l.ensures _ _ _
+    c.read_corners.ensures refl _ c.read_many-e.ensures in
     let many = counts_many _ _ _ _ c.read_counts.ensures c.given-2-1.given _ c.read_many-l.ensures in
     let surface_is = surface_in_lem _ a _ _ _ read _ c.kind.ensures _ _ c.at.ensures c.at-2.ensures _ c.surface_of-surface.ensures in
-    let wraps_are = wraps_in_lem _ a _ _ _ read _ surface_is _ c.u_period.ensures _ c.measure_loops-loops.ensures _ many _ _ (omega arith) c.wraps_of.ensures in
-    let areas_are = areas_in _ a _ _ _ read _ surface_is _ c.u_period.ensures _ c.measure_loops-loops.ensures _ many _ _ (omega arith) c.areas_of.ensures in
+    let wraps_are = wraps_in_lem _ a _ _ _ read _ surface_is _ c.u_period.ensures _ c.measure_loops-loops.ensures _ many _ _ (omega arith)
+    c.wraps_of.ensures in
+    let areas_are = areas_in _ a _ _ _ read _ surface_is _ c.u_period.ensures _ c.measure_loops-loops.ensures _ many _ _ (omega arith)
+    c.areas_of.ensures in
     let found = c.check_rings-found.ensures ∙ rings_judged _ _ (held _ a _ _ _ read) _ wraps_are _ c.kind-2.ensures in
     let passed = c.in_default.is in
     filled_as _ ring_conditions (strip_conditions version1) _ found passed _ _ _ _
-    (c.fill_path.ensures a read (records_in _ a _ _ _ read _ surface_is _ c.u_period.ensures _ c.measure_loops-loops.ensures) wraps_are areas_are surface_is (passed_as _ ring_conditions (strip_conditions version1) _ found passed))
+    (c.fill_path.ensures a read (records_in _ a _ _ _ read _ surface_is _ c.u_period.ensures _ c.measure_loops-loops.ensures) wraps_are
+    areas_are surface_is (passed_as _ ring_conditions (strip_conditions version1) _ found passed))

@@ -11,7 +11,8 @@ pub overflow_add-k : goal.overflow_add-k
 overflow_add-k c = omega (arith, c.loop-i.invariant.few)
 
 pub loop-i-preserved-then-not-is_ring : goal.loop-i-preserved-then-not-is_ring
-loop-i-preserved-then-not-is_ring c = counting_hole _ _ _ _ _ c.loop-i.invariant c.loop-i-test.true _ c.is_ring.ensures (ap not c.if-not-is_ring.true)
+loop-i-preserved-then-not-is_ring c =
+    counting_hole _ _ _ _ _ c.loop-i.invariant c.loop-i-test.true _ c.is_ring.ensures (ap not c.if-not-is_ring.true)
 
 pub loop-i-preserved : goal.loop-i-preserved
 loop-i-preserved c = counting_ring _ _ _ _ _ c.loop-i.invariant c.loop-i-test.true _ c.is_ring.ensures (ap not c.if-not-is_ring.false)

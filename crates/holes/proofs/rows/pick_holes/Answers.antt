@@ -9,7 +9,17 @@ returns-then-not-has_room c = picking_none _ _ _ _ _ _ _ _ _ c.count_rows.ensure
     (ap not c.if-not-has_room.true)
 
 pub loop-i-init : goal.loop-i-init
-loop-i-init c = (refl, (c.count-n.ensures.0, (c.count-n.ensures.1, picking _ _ _ _ _ _ _ _ _ c.count_rows.ensures.0 c.count.ensures.0 c.has_room.ensures (ap not c.if-not-has_room.false))))
+loop-i-init c = (
+  refl,
+  (
+    c.count-n.ensures.0,
+    (
+      c.count-n.ensures.1,
+      picking _ _ _ _ _ _ _ _ _ c.count_rows.ensures.0 c.count.ensures.0
+          c.has_room.ensures (ap not c.if-not-has_room.false),
+    ),
+  ),
+)
 
 pub pick_one-requires : goal.pick_one-requires
 pick_one-requires c = picking_forth _ _ _ _ _ _ _ _ _ _ _ _ _ c.loop-i.invariant.1.1.1 c.loop-i-test.true
@@ -24,7 +34,17 @@ behind-here-requires c = picking_room _ _ _ _ _ _ _ _ _ _ _ _ _ c.loop-i.invaria
     c.count.ensures.1
 
 pub loop-i-preserved : goal.loop-i-preserved
-loop-i-preserved c = (c.out-1.given ∙ c.loop-i.invariant.0, (c.loop-i.invariant.1.0, (c.loop-i.invariant.1.1.0, picking_turn _ _ _ _ _ _ _ _ _ _ _ _ _ c.loop-i.invariant.1.1.1 c.loop-i-test.true c.loop-i.invariant.1.0 c.piece_end-to.ensures c.is_ring-ring.ensures _ _ c.pick_one.ensures c.behind-here.ensures)))
+loop-i-preserved c = (
+  c.out-1.given ∙ c.loop-i.invariant.0,
+  (
+    c.loop-i.invariant.1.0,
+    (
+      c.loop-i.invariant.1.1.0,
+      picking_turn _ _ _ _ _ _ _ _ _ _ _ _ _ c.loop-i.invariant.1.1.1 c.loop-i-test.true
+          c.loop-i.invariant.1.0 c.piece_end-to.ensures c.is_ring-ring.ensures _ _ c.pick_one.ensures c.behind-here.ensures,
+    ),
+  ),
+)
 
 pub shape_of-out : goal.shape_of-out
 shape_of-out c = c.loop-i.invariant.0

@@ -10,7 +10,11 @@ pub loop-i-init : goal.loop-i-init
 loop-i-init c = bounding _ _ _ _ _ c.count-n.ensures.0 c.if-out-counts.false
 
 pub end_of_part-requires : goal.end_of_part-requires
-end_of_part-requires c = (let e = c.piece_end-to.ensures in let a = c.loop-i.invariant.is.at.low in let n = c.loop-i.invariant.count in omega arith, let e = c.piece_end-to.ensures in let n = c.loop-i.invariant.whole in omega arith)
+end_of_part-requires c = (
+  let e = c.piece_end-to.ensures in let a = c.loop-i.invariant.is.at.low in let n = c.loop-i.invariant.count in omega arith,
+  let e
+      = c.piece_end-to.ensures in let n = c.loop-i.invariant.whole in omega arith,
+)
 
 pub offset_bounds-out-i : goal.offset_bounds-out-i
 offset_bounds-out-i c = let l = c.loop-i.invariant.is.fill.long in omega arith

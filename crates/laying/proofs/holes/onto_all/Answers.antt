@@ -7,7 +7,11 @@ pub loop-i-init : goal.loop-i-init
 loop-i-init c = holes_moving _ _ _ _ _ c.count-n.ensures.0
 
 pub onto_part-requires : goal.onto_part-requires
-onto_part-requires c = (let e = c.piece_end-to.ensures in let a = c.loop-i.invariant.is.low in let n = c.loop-i.invariant.count in omega arith, let e = c.piece_end-to.ensures in let n = c.loop-i.invariant.count in omega arith)
+onto_part-requires c = (
+  let e = c.piece_end-to.ensures in let a = c.loop-i.invariant.is.low in let n = c.loop-i.invariant.count in omega arith,
+  let e
+      = c.piece_end-to.ensures in let n = c.loop-i.invariant.count in omega arith,
+)
 
 pub loop-i-preserved : goal.loop-i-preserved
 loop-i-preserved c = holes_moving_turn _ _ _ _ _ _ _ _ _ _ c.loop-i.invariant

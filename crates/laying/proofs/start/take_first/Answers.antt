@@ -9,8 +9,10 @@ shape_of-u c = omega
 
 pub returns : goal.returns
 returns c = first_taken _ (rows c.args.first.now) _ c.args.u.now c.args.v.now c.args.x.now c.args.y.now
-    c.args.z.now _ _ _ _ _ _ _ _ _ _ c.requires
-    (c.columns_into.ensures.u_after, (c.columns_into.ensures.v_after, (c.columns_into.ensures.x_after, (c.columns_into.ensures.y_after, c.columns_into.ensures.z_after))))
+    c.args.z.now _ _ _ _ _ _ _ _ _ _ c.requires (
+      c.columns_into.ensures.u_after,
+      (c.columns_into.ensures.v_after, (c.columns_into.ensures.x_after, (c.columns_into.ensures.y_after, c.columns_into.ensures.z_after))),
+    )
     c.rows_from.ensures _
     c.begin_ring_at.ensures
     c.begin_ring_at-2.ensures

@@ -25,8 +25,10 @@ shape_of-z c = omega
 
 pub returns : goal.returns
 returns c = later-taken _ (rows c.args.later.now) _ c.args.u.now c.args.v.now c.args.x.now c.args.y.now
-    c.args.z.now _ _ _ _ _ _ _ _ _ _ c.requires
-    (c.columns_into.ensures.u_after, (c.columns_into.ensures.v_after, (c.columns_into.ensures.x_after, (c.columns_into.ensures.y_after, c.columns_into.ensures.z_after))))
+    c.args.z.now _ _ _ _ _ _ _ _ _ _ c.requires (
+      c.columns_into.ensures.u_after,
+      (c.columns_into.ensures.v_after, (c.columns_into.ensures.x_after, (c.columns_into.ensures.y_after, c.columns_into.ensures.z_after))),
+    )
     c.rows_from.ensures _ _
     c.nearest-near.ensures
     c.later_for.ensures

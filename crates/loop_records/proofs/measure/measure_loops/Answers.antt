@@ -8,7 +8,8 @@ use Rattle.loop_records.proofs.Recorded.{no_recording, recording, recording_turn
 use Rattle.loop_records.proofs.measure.measure_loops.Goals as goal
 
 pub returns-then-counts-gt16 : goal.returns-then-counts-gt16
-returns-then-counts-gt16 c = no_recording _ _ _ _ (omega (arith, c.if-counts-gt16.true)) ∙ ap (placed 0 _) (ap (replicate 16) c.no_loop-loops.ensures)
+returns-then-counts-gt16 c =
+    no_recording _ _ _ _ (omega (arith, c.if-counts-gt16.true)) ∙ ap (placed 0 _) (ap (replicate 16) c.no_loop-loops.ensures)
 
 pub loop-i-init : goal.loop-i-init
 loop-i-init c = (c.count-n.ensures.0, length-rows _, recording _ _ _ _ (omega (arith, c.if-counts-gt16.false)))
@@ -27,4 +28,5 @@ loop-i-preserved c = let inv = c.loop-i.invariant in (
 )
 
 pub returns : goal.returns
-returns c = recording_end _ _ _ _ _ _ _ c.loop-i.invariant.2 c.loop-i-test.false ∙ ap (placed 0 _) (ap (replicate 16) c.no_loop-loops.ensures)
+returns c =
+    recording_end _ _ _ _ _ _ _ c.loop-i.invariant.2 c.loop-i-test.false ∙ ap (placed 0 _) (ap (replicate 16) c.no_loop-loops.ensures)

@@ -6,7 +6,9 @@ use Rattle.loop_records.proofs.Recorded.{Recording}
 use Rattle.loop_records.proofs.measure.measure_loops.Given as goal
 
 abbrev pub invariant-loop-i : goal.invariant-loop-i
-invariant-loop-i l = (l.n ≡ length (rows l.t)) × (length (rows l.t) ≡ length l.t / 5) × Recording l.period l.counts (rows l.t) l.initial.loops l.loops l.from l.i
+invariant-loop-i l =
+    (l.n ≡ length (rows l.t)) × (length (rows l.t) ≡ length l.t / 5) × Recording l.period l.counts (rows l.t) l.initial.loops l.loops
+    l.from l.i
 
 abbrev pub decreases-loop-i : goal.decreases-loop-i
 decreases-loop-i l = length l.counts - l.i

@@ -12,4 +12,5 @@ pub returns : goal.returns
 unfolding nearest_branch
 returns c = let a = c.args in
     let g = c.well_formed in
-    let r = branch_answer a.value a.reference a.period _ g.0.1 g.1.0.1 (rw (c.if-period.false, c.branch_shift.ensures.value)) in record { value = r.0; lands_near = r.1 }
+    let r = branch_answer a.value a.reference a.period _ g.0.1 g.1.0.1 (rw (c.if-period.false, c.branch_shift.ensures.value)) in
+    record { value = r.0; lands_near = r.1 }

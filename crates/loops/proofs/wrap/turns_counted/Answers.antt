@@ -6,7 +6,10 @@ use Rattle.loops.proofs.wrap.Laws.{counted, too_far_off, no_turn}
 use Rattle.loops.proofs.wrap.turns_counted.Goals as goal
 
 pub returns-then-abs-2 : goal.returns-then-abs-2
-returns-then-abs-2 c = to_z-of_z {w = w32} (sfits_of c.as_i32.type_inv) ∙ c.as_i32.ensures ∙ counted _ _ _ _ c.round-whole.ensures c.abs.ensures c.if-abs.true c.abs-then-abs.ensures c.if-abs-2.true
+returns-then-abs-2 c =
+    to_z-of_z {w = w32} (sfits_of c.as_i32.type_inv)
+    ∙ c.as_i32.ensures
+    ∙ counted _ _ _ _ c.round-whole.ensures c.abs.ensures c.if-abs.true c.abs-then-abs.ensures c.if-abs-2.true
 
 pub returns-else-abs-2 : goal.returns-else-abs-2
 returns-else-abs-2 c = too_far_off _ _ _ c.round-whole.ensures c.abs-then-abs.ensures c.if-abs-2.false

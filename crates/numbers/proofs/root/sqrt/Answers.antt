@@ -4,8 +4,8 @@ use Rattle.numbers.proofs.root.sqrt.Goals as goal
 
 pub positive-requires : goal.positive-requires
 positive-requires c = record {
-  fact_1 = reals.above c.args.x c.if-x.true;
-  fact_2 = laws.below_endless c.args.x c.if-x-2.true;
+  above_zero = reals.above c.args.x c.if-x.true;
+  below_infinity = laws.below_endless c.args.x c.if-x-2.true;
 }
 
 pub returns-else-x-2 : goal.returns-else-x-2

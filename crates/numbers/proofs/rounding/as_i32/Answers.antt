@@ -8,11 +8,19 @@ pub truncating_f64_to_i64-requires : goal.truncating_f64_to_i64-requires
 truncating_f64_to_i64-requires c = let r = in_long _ c.if-x.true c.if-x-2.true in record { lower_bound = r.0; upper_bound = r.1 }
 
 pub overflow_cast-result : goal.overflow_cast-result
-overflow_cast-result c = rw (to_z-of_z {w = w64} (sfits_of c.truncating_f64_to_i64.type_inv), c.truncating_f64_to_i64.ensures, same-cut _ c.if-x.true c.if-x-2.true) (cut_fits _)
+overflow_cast-result c =
+    rw (
+      to_z-of_z {w = w64} (sfits_of c.truncating_f64_to_i64.type_inv),
+      c.truncating_f64_to_i64.ensures,
+      same-cut _ c.if-x.true
+          c.if-x-2.true,
+    ) (cut_fits _)
 
 pub returns-then-x-2 : goal.returns-then-x-2
 returns-then-x-2 c = let same : to_z w64 (of_z w64 c.truncating_f64_to_i64.result) ≡ to_signed 31 c.args.x =
-    to_z-of_z {w = w64} (sfits_of c.truncating_f64_to_i64.type_inv) ∙ c.truncating_f64_to_i64.ensures ∙ same-cut _ c.if-x.true c.if-x-2.true in
+    to_z-of_z {w = w64} (sfits_of c.truncating_f64_to_i64.type_inv)
+    ∙ c.truncating_f64_to_i64.ensures
+    ∙ same-cut _ c.if-x.true c.if-x-2.true in
     rw same (to_z-of_z (cut_fits _))
 
 pub returns-then-x : goal.returns-then-x

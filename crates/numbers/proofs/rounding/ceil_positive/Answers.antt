@@ -12,7 +12,9 @@ at : (c : Then-x) → laws.Small c.args.x
 at c = laws.small c.args.x c.requires c.if-x.true
 
 pub truncating_f64_to_u64-t-requires : goal.truncating_f64_to_u64-t-requires
-truncating_f64_to_u64-t-requires c = let r = laws.single_range c.args.x (at (goal.at.truncating_f64_to_u64-t-requires c).Then-x) in record { lower_bound = r.0; upper_bound = r.1 }
+truncating_f64_to_u64-t-requires c =
+    let r = laws.single_range c.args.x (at (goal.at.truncating_f64_to_u64-t-requires c).Then-x) in
+    record { lower_bound = r.0; upper_bound = r.1 }
 
 pub overflow_add-t : goal.overflow_add-t
 overflow_add-t c = let k = laws.cut_small c.args.x (at (goal.at.overflow_add-t c).Then-x) in

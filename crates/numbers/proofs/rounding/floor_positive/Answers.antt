@@ -12,7 +12,9 @@ at : (c : Then-x) → laws.Small c.args.x
 at c = laws.small c.args.x c.requires c.if-x.true
 
 pub truncating_f64_to_u64-requires : goal.truncating_f64_to_u64-requires
-truncating_f64_to_u64-requires c = let r = laws.single_range c.args.x (at (goal.at.truncating_f64_to_u64-requires c).Then-x) in record { lower_bound = r.0; upper_bound = r.1 }
+truncating_f64_to_u64-requires c =
+    let r = laws.single_range c.args.x (at (goal.at.truncating_f64_to_u64-requires c).Then-x) in
+    record { lower_bound = r.0; upper_bound = r.1 }
 
 pub returns-then-x : goal.returns-then-x
 returns-then-x c = c.nearest_u64_to_f64.ensures

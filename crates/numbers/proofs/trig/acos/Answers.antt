@@ -38,8 +38,14 @@ loop-n-preserved c = let l = c.loop-n in
     let x = c.args.c in
     let k = c.cos in
     elim c.if-cos-c.branch [
-      | then-cos-c w ↦ ap (λ (z : Float). acos_from x (l.n - 1) z c.if-cos-c.hi) w.lo-is ∙ ap (acos_from x (l.n - 1) (mid l.lo l.hi)) w.hi-is ∙ sym (step_up x l.lo l.hi l.n k.result c.loop-n-test.true k.ensures w.if-cos-c.true) ∙ l.invariant
-      | else-cos-c w ↦ ap (λ (z : Float). acos_from x (l.n - 1) z c.if-cos-c.hi) w.lo-is ∙ ap (acos_from x (l.n - 1) l.lo) w.hi-is ∙ sym (step_down x l.lo l.hi l.n k.result c.loop-n-test.true k.ensures w.if-cos-c.false) ∙ l.invariant
+      | then-cos-c w ↦ ap (λ (z : Float). acos_from x (l.n - 1) z c.if-cos-c.hi) w.lo-is
+          ∙ ap (acos_from x (l.n - 1) (mid l.lo l.hi)) w.hi-is
+          ∙ sym (step_up x l.lo l.hi l.n k.result c.loop-n-test.true k.ensures w.if-cos-c.true)
+          ∙ l.invariant
+      | else-cos-c w ↦ ap (λ (z : Float). acos_from x (l.n - 1) z c.if-cos-c.hi) w.lo-is
+          ∙ ap (acos_from x (l.n - 1) l.lo) w.hi-is
+          ∙ sym (step_down x l.lo l.hi l.n k.result c.loop-n-test.true k.ensures w.if-cos-c.false)
+          ∙ l.invariant
     ]
 
 pub returns : goal.returns

@@ -35,4 +35,5 @@ pub returns-in-2 : goal.returns-in-2
 returns-in-2 c = ap (at (goal.at.returns-in-2 c).After-quarter) (sym c.in-2.is) ∙ all (goal.at.returns-in-2 c).After-quarter
 
 pub returns-in_default : goal.returns-in_default
-returns-in_default c = rest c.quarter.result _ _ (search rules) (search rules) (search rules) ∙ all (goal.at.returns-in_default c).After-quarter
+returns-in_default c =
+    rest c.quarter.result _ _ (search rules) (search rules) (search rules) ∙ all (goal.at.returns-in_default c).After-quarter

@@ -28,8 +28,11 @@ int_to_float-s c = tt
 pub loop-j-preserved : goal.loop-j-preserved
 loop-j-preserved c = let l = c.loop-j in
     let a = c.args in
-    let d = c.divisor in
-    (omega arith, ap (λ (n : ℕ). series_from a.sine a.w (l.j - 1) (step a.w l.s n)) d.ensures ∙ sym (turn a.sine a.w l.s l.j c.loop-j-test.true) ∙ l.invariant.1)
+    let d = c.divisor in (
+      omega arith,
+      ap (λ (n : ℕ). series_from a.sine a.w (l.j - 1) (step a.w l.s n)) d.ensures ∙ sym
+          (turn a.sine a.w l.s l.j c.loop-j-test.true) ∙ l.invariant.1,
+    )
 
 pub returns : goal.returns
 returns c = ended c.args.sine c.args.w c.loop-j.s c.loop-j.j c.loop-j-test.false ∙ c.loop-j.invariant.1

@@ -12,10 +12,16 @@ pub overflow_mul-i : goal.overflow_mul-i
 overflow_mul-i c = let z = c.loop-i.invariant.seeking.far in omega arith
 
 pub returns-then-not-head_holds : goal.returns-then-not-head_holds
-returns-then-not-head_holds c = let w = c.loop-i.invariant in reals.scan_found w c.loop-i-test.true c.real_at.ensures c.head_holds.ensures (reals.head-range w (omega arith)) (not-true _ (ap not c.if-not-head_holds.true))
+returns-then-not-head_holds c =
+    let w = c.loop-i.invariant in
+    reals.scan_found w c.loop-i-test.true c.real_at.ensures c.head_holds.ensures (reals.head-range w (omega arith))
+    (not-true _ (ap not c.if-not-head_holds.true))
 
 pub loop-i-preserved : goal.loop-i-preserved
-loop-i-preserved c = let w = c.loop-i.invariant in reals.scan_turn w c.loop-i-test.true c.real_at.ensures c.head_holds.ensures (reals.head-range w (omega arith)) (not-false _ (ap not c.if-not-head_holds.false))
+loop-i-preserved c =
+    let w = c.loop-i.invariant in
+    reals.scan_turn w c.loop-i-test.true c.real_at.ensures c.head_holds.ensures (reals.head-range w (omega arith))
+    (not-false _ (ap not c.if-not-head_holds.false))
 
 pub returns : goal.returns
 returns c = reals.scan_end c.loop-i.invariant c.loop-i-test.false

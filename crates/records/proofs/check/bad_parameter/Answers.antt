@@ -9,10 +9,16 @@ pub loop-j-init : goal.loop-j-init
 loop-j-init c = reals.scan_start c.wide-kind.ensures.0 (omega arith)
 
 pub returns-then-not-uv_holds : goal.returns-then-not-uv_holds
-returns-then-not-uv_holds c = let w = c.loop-j.invariant in reals.scan_found w c.loop-j-test.true c.real_at.ensures c.uv_holds.ensures (reals.uv-range w c.requires.1 c.loop-j-test.true) (not-true _ (ap not c.if-not-uv_holds.true))
+returns-then-not-uv_holds c =
+    let w = c.loop-j.invariant in
+    reals.scan_found w c.loop-j-test.true c.real_at.ensures c.uv_holds.ensures (reals.uv-range w c.requires.1 c.loop-j-test.true)
+    (not-true _ (ap not c.if-not-uv_holds.true))
 
 pub loop-j-preserved : goal.loop-j-preserved
-loop-j-preserved c = let w = c.loop-j.invariant in reals.scan_turn w c.loop-j-test.true c.real_at.ensures c.uv_holds.ensures (reals.uv-range w c.requires.1 c.loop-j-test.true) (not-false _ (ap not c.if-not-uv_holds.false))
+loop-j-preserved c =
+    let w = c.loop-j.invariant in
+    reals.scan_turn w c.loop-j-test.true c.real_at.ensures c.uv_holds.ensures (reals.uv-range w c.requires.1 c.loop-j-test.true)
+    (not-false _ (ap not c.if-not-uv_holds.false))
 
 pub returns : goal.returns
 returns c = reals.scan_end c.loop-j.invariant c.loop-j-test.false

@@ -10,10 +10,16 @@ pub loop-j-init : goal.loop-j-init
 loop-j-init c = reals.scan_start refl (omega arith)
 
 pub returns-then-not-xyz_holds : goal.returns-then-not-xyz_holds
-returns-then-not-xyz_holds c = let w = c.loop-j.invariant in reals.scan_found w c.loop-j-test.true c.real_at.ensures c.xyz_holds.ensures (reals.xyz-range _ _ _ c.requires.1) (not-true _ (ap not c.if-not-xyz_holds.true))
+returns-then-not-xyz_holds c =
+    let w = c.loop-j.invariant in
+    reals.scan_found w c.loop-j-test.true c.real_at.ensures c.xyz_holds.ensures (reals.xyz-range _ _ _ c.requires.1)
+    (not-true _ (ap not c.if-not-xyz_holds.true))
 
 pub loop-j-preserved : goal.loop-j-preserved
-loop-j-preserved c = let w = c.loop-j.invariant in reals.scan_turn w c.loop-j-test.true c.real_at.ensures c.xyz_holds.ensures (reals.xyz-range _ _ _ c.requires.1) (not-false _ (ap not c.if-not-xyz_holds.false))
+loop-j-preserved c =
+    let w = c.loop-j.invariant in
+    reals.scan_turn w c.loop-j-test.true c.real_at.ensures c.xyz_holds.ensures (reals.xyz-range _ _ _ c.requires.1)
+    (not-false _ (ap not c.if-not-xyz_holds.false))
 
 pub returns : goal.returns
 returns c = reals.scan_end c.loop-j.invariant c.loop-j-test.false

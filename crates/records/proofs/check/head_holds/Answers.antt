@@ -15,12 +15,27 @@ returns-then-i-eq9 c = held _ _ _ _ (rw (le-ltb _ _ c.if-i-lt9.false, eq-eqb _ _
 
 pub returns-then-i-eq10 : goal.returns-then-i-eq10
 unfolding head_range
-returns-then-i-eq10 c = held _ _ _ _ (rw (le-ltb _ _ c.if-i-lt9.false, ne_eqb _ _ c.if-i-eq9.false, eq-eqb _ _ c.if-i-eq10.true)) c.second_holds.ensures
+returns-then-i-eq10 c =
+    held _ _ _ _ (rw (le-ltb _ _ c.if-i-lt9.false, ne_eqb _ _ c.if-i-eq9.false, eq-eqb _ _ c.if-i-eq10.true)) c.second_holds.ensures
 
 pub returns-then-i-eq11 : goal.returns-then-i-eq11
 unfolding head_range of_bits of_fields odd neg
-returns-then-i-eq11 c = within _ _ _ _ _ (rw (le-ltb _ _ c.if-i-lt9.false, ne_eqb _ _ c.if-i-eq9.false, ne_eqb _ _ c.if-i-eq10.false, eq-eqb _ _ c.if-i-eq11.true)) refl refl c.between-then-i-eq11.ensures
+returns-then-i-eq11 c =
+    within _ _ _ _ _ (rw (
+      le-ltb _ _ c.if-i-lt9.false,
+      ne_eqb _ _ c.if-i-eq9.false,
+      ne_eqb _ _ c.if-i-eq10.false,
+      eq-eqb _ _
+          c.if-i-eq11.true,
+    )) refl refl c.between-then-i-eq11.ensures
 
 pub returns : goal.returns
 unfolding head_range of_bits of_fields odd neg
-returns c = within _ _ _ _ _ (rw (le-ltb _ _ c.if-i-lt9.false, ne_eqb _ _ c.if-i-eq9.false, ne_eqb _ _ c.if-i-eq10.false, ne_eqb _ _ c.if-i-eq11.false)) refl refl c.between-2.ensures
+returns c =
+    within _ _ _ _ _ (rw (
+      le-ltb _ _ c.if-i-lt9.false,
+      ne_eqb _ _ c.if-i-eq9.false,
+      ne_eqb _ _ c.if-i-eq10.false,
+      ne_eqb _ _
+          c.if-i-eq11.false,
+    )) refl refl c.between-2.ensures

@@ -11,7 +11,8 @@ returns-then-kind-eq0 c = within _ _ _ _ _ (rw (eq-eqb _ _ c.if-kind-eq0.true)) 
 
 pub returns-then-kind-eq2 : goal.returns-then-kind-eq2
 unfolding radius of_bits of_fields odd neg
-returns-then-kind-eq2 c = within _ _ _ _ _ (rw (ne_eqb _ _ c.if-kind-eq0.false, eq-eqb _ _ c.if-kind-eq2.true)) refl refl c.between-then-kind-eq2.ensures
+returns-then-kind-eq2 c =
+    within _ _ _ _ _ (rw (ne_eqb _ _ c.if-kind-eq0.false, eq-eqb _ _ c.if-kind-eq2.true)) refl refl c.between-then-kind-eq2.ensures
 
 pub returns : goal.returns
 unfolding radius of_bits of_fields odd neg

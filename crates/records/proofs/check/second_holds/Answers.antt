@@ -11,7 +11,8 @@ returns-then-kind-eq2 c = within _ _ _ _ _ (rw (eq-eqb _ _ c.if-kind-eq2.true)) 
 
 pub returns-then-kind-eq4 : goal.returns-then-kind-eq4
 unfolding second of_bits of_fields odd neg
-returns-then-kind-eq4 c = within _ _ _ _ _ (rw (ne_eqb _ _ c.if-kind-eq2.false, eq-eqb _ _ c.if-kind-eq4.true)) refl refl c.between-then-kind-eq4.ensures
+returns-then-kind-eq4 c =
+    within _ _ _ _ _ (rw (ne_eqb _ _ c.if-kind-eq2.false, eq-eqb _ _ c.if-kind-eq4.true)) refl refl c.between-then-kind-eq4.ensures
 
 pub returns : goal.returns
 unfolding second of_bits of_fields odd neg

@@ -7,10 +7,12 @@ pub loop-k-init : goal.loop-k-init
 loop-k-init c = (seek_start, c.loops-l.ensures)
 
 pub returns-then-count_at-lt-MIN_POINTS : goal.returns-then-count_at-lt-MIN_POINTS
-returns-then-count_at-lt-MIN_POINTS c = counting.few_found _ c.loop-k.invariant.0 (omega arith) c.count_at.ensures.0 c.if-count_at-lt-MIN_POINTS.true
+returns-then-count_at-lt-MIN_POINTS c =
+    counting.few_found _ c.loop-k.invariant.0 (omega arith) c.count_at.ensures.0 c.if-count_at-lt-MIN_POINTS.true
 
 pub loop-k-preserved : goal.loop-k-preserved
-loop-k-preserved c = (counting.few_turn _ c.loop-k.invariant.0 (omega arith) c.count_at.ensures.0 c.if-count_at-lt-MIN_POINTS.false, c.loop-k.invariant.1)
+loop-k-preserved c =
+    (counting.few_turn _ c.loop-k.invariant.0 (omega arith) c.count_at.ensures.0 c.if-count_at-lt-MIN_POINTS.false, c.loop-k.invariant.1)
 
 pub returns : goal.returns
 returns c = counting.few-end _ c.loop-k.invariant.0 (omega arith)

@@ -9,7 +9,10 @@ pub returns-then-total-limits : goal.returns-then-total-limits
 returns-then-total-limits c = counting.total_found c.loop-k.invariant.0 (omega arith) c.count_at-total.ensures.0 c.if-total-limits.true
 
 pub loop-k-preserved : goal.loop-k-preserved
-loop-k-preserved c = (counting.total_turn c.loop-k.invariant.0 (omega arith) c.count_at-total.ensures.0 c.count_at-total.ensures.1 c.if-total-limits.false, c.loop-k.invariant.1)
+loop-k-preserved c = (
+  counting.total_turn c.loop-k.invariant.0 (omega arith) c.count_at-total.ensures.0 c.count_at-total.ensures.1 c.if-total-limits.false,
+  c.loop-k.invariant.1,
+)
 
 pub returns : goal.returns
 returns c = counting.total-end c.loop-k.invariant.0 (omega arith)

@@ -16,16 +16,49 @@ returns-then-face-gt4 c = rw (le-ltb _ _ c.if-face-lt-HEADER_SIZE.false, eq-eqb 
 
 pub returns-then-face-gt1 : goal.returns-then-face-gt1
 unfolding wrong_header wrong_byte first_from
-returns-then-face-gt1 c = rw (le-ltb _ _ c.if-face-lt-HEADER_SIZE.false, eq-eqb _ _ c.if-face-ne1.false, le-ltb _ _ c.if-face-gt4.false, lt-ltb _ _ c.if-face-gt1.true)
+returns-then-face-gt1 c =
+    rw (
+      le-ltb _ _ c.if-face-lt-HEADER_SIZE.false,
+      eq-eqb _ _ c.if-face-ne1.false,
+      le-ltb _ _ c.if-face-gt4.false,
+      lt-ltb _ _
+          c.if-face-gt1.true,
+    )
 
 pub returns-then-face-lt1 : goal.returns-then-face-lt1
 unfolding wrong_header wrong_byte first_from
-returns-then-face-lt1 c = rw (le-ltb _ _ c.if-face-lt-HEADER_SIZE.false, eq-eqb _ _ c.if-face-ne1.false, le-ltb _ _ c.if-face-gt4.false, le-ltb _ _ c.if-face-gt1.false, lt-ltb _ _ c.if-face-lt1.true)
+returns-then-face-lt1 c =
+    rw (
+      le-ltb _ _ c.if-face-lt-HEADER_SIZE.false,
+      eq-eqb _ _ c.if-face-ne1.false,
+      le-ltb _ _ c.if-face-gt4.false,
+      le-ltb _ _
+          c.if-face-gt1.false,
+      lt-ltb _ _ c.if-face-lt1.true,
+    )
 
 pub returns-then-face-gt64 : goal.returns-then-face-gt64
 unfolding wrong_header wrong_byte first_from
-returns-then-face-gt64 c = rw (le-ltb _ _ c.if-face-lt-HEADER_SIZE.false, eq-eqb _ _ c.if-face-ne1.false, le-ltb _ _ c.if-face-gt4.false, le-ltb _ _ c.if-face-gt1.false, le-ltb _ _ c.if-face-lt1.false, lt-ltb _ _ c.if-face-gt64.true)
+returns-then-face-gt64 c =
+    rw (
+      le-ltb _ _ c.if-face-lt-HEADER_SIZE.false,
+      eq-eqb _ _ c.if-face-ne1.false,
+      le-ltb _ _ c.if-face-gt4.false,
+      le-ltb _ _
+          c.if-face-gt1.false,
+      le-ltb _ _ c.if-face-lt1.false,
+      lt-ltb _ _ c.if-face-gt64.true,
+    )
 
 pub returns : goal.returns
 unfolding wrong_header wrong_byte first_from
-returns c = rw (le-ltb _ _ c.if-face-lt-HEADER_SIZE.false, eq-eqb _ _ c.if-face-ne1.false, le-ltb _ _ c.if-face-gt4.false, le-ltb _ _ c.if-face-gt1.false, le-ltb _ _ c.if-face-lt1.false, le-ltb _ _ c.if-face-gt64.false)
+returns c =
+    rw (
+      le-ltb _ _ c.if-face-lt-HEADER_SIZE.false,
+      eq-eqb _ _ c.if-face-ne1.false,
+      le-ltb _ _ c.if-face-gt4.false,
+      le-ltb _ _
+          c.if-face-gt1.false,
+      le-ltb _ _ c.if-face-lt1.false,
+      le-ltb _ _ c.if-face-gt64.false,
+    )

@@ -14,13 +14,20 @@ pub returns-then-dst-l : goal.returns-then-dst-l
 returns-then-dst-l c = reading.no_counts-room _ _ c.loops-l.ensures.0 c.if-dst-l.true
 
 pub loop-k-init : goal.loop-k-init
-loop-k-init c = (columns.counts_start _ c.loops-l.ensures.0 c.if-dst-l.false, reading.there_long _ (reading.there _ c.counts_there.ensures (ap not c.if-not-counts_there.false)))
+loop-k-init c = (
+  columns.counts_start _ c.loops-l.ensures.0 c.if-dst-l.false,
+  reading.there_long _
+      (reading.there _ c.counts_there.ensures (ap not c.if-not-counts_there.false)),
+)
 
 pub loop-k-preserved : goal.loop-k-preserved
-loop-k-preserved c = (columns.counts_turn _ c.loops-l.ensures.0 c.loop-k.invariant.0 c.loop-k-test.true c.count_at.ensures.0, c.loop-k.invariant.1)
+loop-k-preserved c =
+    (columns.counts_turn _ c.loops-l.ensures.0 c.loop-k.invariant.0 c.loop-k-test.true c.count_at.ensures.0, c.loop-k.invariant.1)
 
 pub shape_of-dst : goal.shape_of-dst
 shape_of-dst c = c.loop-k.invariant.0.long
 
 pub returns : goal.returns
-returns c = reading.counts_read _ _ (reading.there _ c.counts_there.ensures (ap not c.if-not-counts_there.false)) c.loops-l.ensures.0 c.if-dst-l.false (columns.counts_end _ c.loops-l.ensures.0 c.loop-k.invariant.0 c.loop-k-test.false)
+returns c =
+    reading.counts_read _ _ (reading.there _ c.counts_there.ensures (ap not c.if-not-counts_there.false)) c.loops-l.ensures.0
+    c.if-dst-l.false (columns.counts_end _ c.loops-l.ensures.0 c.loop-k.invariant.0 c.loop-k-test.false)

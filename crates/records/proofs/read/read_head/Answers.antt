@@ -17,4 +17,6 @@ pub returns-then-dst-lt-HEAD_REALS : goal.returns-then-dst-lt-HEAD_REALS
 returns-then-dst-lt-HEAD_REALS c = reading.no_head-room _ _ c.if-dst-lt-HEAD_REALS.true
 
 pub returns : goal.returns
-returns c = reading.head_read _ _ (omega arith) c.if-face-at.false c.if-dst-lt-HEAD_REALS.false (reading.head_filled _ (omega arith) _ c.read_column.ensures)
+returns c =
+    reading.head_read _ _ (omega arith) c.if-face-at.false c.if-dst-lt-HEAD_REALS.false
+    (reading.head_filled _ (omega arith) _ c.read_column.ensures)

@@ -9,5 +9,7 @@ returns-then-stands_at_the_cut c = serve-first _ _ _ _ c.begins_backward.ensures
     c.first_of-cut.ensures _ c.stands_at_the_cut.ensures c.if-stands_at_the_cut.true
 
 pub returns : goal.returns
-returns c = serve-later _ _ _ _ c.begins_backward.ensures c.if-begins_backward.false _ c.first_of-cut.ensures _ _ c.stands_at_the_cut.ensures c.if-stands_at_the_cut.false
+returns c =
+    serve-later _ _ _ _ c.begins_backward.ensures c.if-begins_backward.false _ c.first_of-cut.ensures _ _ c.stands_at_the_cut.ensures
+    c.if-stands_at_the_cut.false
     c.stands_at_the_cut-2.ensures

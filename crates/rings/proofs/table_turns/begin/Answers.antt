@@ -19,5 +19,6 @@ move_part-requires c = omega
     (arith, length-rows c.reverse_rows.new.t, length-rows c.args.t.now)
 
 pub returns : goal.returns
-returns c = rows-begun (move_u (moved_by c.args.again)) (rows c.args.t.now) c.count-n.result c.count-n.ensures.0 c.args.k _ _ _ _ c.if-n-k.false
+returns c =
+    rows-begun (move_u (moved_by c.args.again)) (rows c.args.t.now) c.count-n.result c.count-n.ensures.0 c.args.k _ _ _ _ c.if-n-k.false
     c.reverse_part.ensures c.reverse_part-2.ensures c.reverse_rows.ensures c.move_part.ensures

@@ -10,4 +10,5 @@ returns c = let first = rows c.args.first.now in
     let count = c.count-end in
     let l = length-first c.args.period first c.args.k in
     let n = count.ensures.0 in
-    part_written 0 count.result (us (first_for c.args.period c.args.k first)) _ c.args.trial.now c.first_into.ensures (omega arith) (omega (arith, c.requires))
+    part_written 0 count.result (us (first_for c.args.period c.args.k first)) _ c.args.trial.now c.first_into.ensures (omega arith)
+    (omega (arith, c.requires))

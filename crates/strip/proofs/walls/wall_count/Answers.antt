@@ -12,5 +12,5 @@ returns c = let given = c.args in
     let count = laws.count_is given.surface given.options given.lower given.upper _ _ _ least most steps _ c.inner_count.ensures.value in
     record {
       value = count;
-      value_2 = count ∙ ap length (heights-kept _ _ _ _);
+      as_kept = count ∙ ap length (heights-kept _ _ _ _);
     }

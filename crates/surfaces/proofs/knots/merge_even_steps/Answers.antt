@@ -15,7 +15,9 @@ loop-i-preserved c = walk.walk_near _ _ _ _ c.loop-i.invariant c.loop-i-test.tru
     c.near.ensures (ap not c.if-not-near.false)
 
 pub returns-then-lo-hi : goal.returns-then-lo-hi
-returns-then-lo-hi c = let r = walk.walk_ended _ _ _ _ c.loop-i.invariant c.loop-i-test.false c.if-lo-hi.true c.larger.ensures in record { value = r.0; ends_on = r.1 }
+returns-then-lo-hi c =
+    let r = walk.walk_ended _ _ _ _ c.loop-i.invariant c.loop-i-test.false c.if-lo-hi.true c.larger.ensures in
+    record { value = r.0; ends_on = r.1 }
 
 pub returns : goal.returns
 returns c = let r = walk.walk_end _ _ _ _ c.loop-i.invariant c.loop-i-test.false c.if-lo-hi.false in record { value = r.0; ends_on = r.1 }

@@ -4,7 +4,8 @@ use Rattle.wrapped_region.proofs.ordered.Laws.{ordered_first, ordered_later}
 use Rattle.wrapped_region.proofs.ordered.close_ordered.Goals as goal
 
 pub returns-then-first_is_lower : goal.returns-then-first_is_lower
-returns-then-first_is_lower c = let r = ordered_first _ _ _ _ c.args.with1 c.args.with2 (rings_of c.args.first.now c.args.later.now) _ _ _ _ _ _ _ _ _ _ _
+returns-then-first_is_lower c =
+    let r = ordered_first _ _ _ _ c.args.with1 c.args.with2 (rings_of c.args.first.now c.args.later.now) _ _ _ _ _ _ _ _ _ _ _
     c.v_period.ensures
     c.mean_v-mean1.ensures
     c.mean_v-mean2.ensures
