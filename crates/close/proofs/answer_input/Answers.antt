@@ -1,13 +1,9 @@
-use mathlib.Core.Path.{◌≡◌, sym}
+use mathlib.Core.Path.{◌≡◌}
 use lib.ListN.{length, take}
-use lib.Seq.{length-take-le}
 use borrow.Author.Rules.{rules}
 use Rattle.records.specs.Limits.{version1}
 use Rattle.close.proofs.Whole.{within, of_all}
 use Rattle.close.proofs.answer_input.Goals as goal
-
-pub slice_bounds-write_answer-end : goal.slice_bounds-write_answer-end
-slice_bounds-write_answer-end c = sym (length-take-le _ _ c.requires)
 
 pub returns : goal.returns
 returns c = let given = c.args in

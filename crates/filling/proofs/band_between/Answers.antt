@@ -3,18 +3,6 @@ use Rattle.bands.specs.Columns.{setting_of}
 use Rattle.filling.proofs.Between.{between, still_short}
 use Rattle.filling.proofs.band_between.Goals as goal
 
-pub shape_of-first : goal.shape_of-first
-shape_of-first c = omega
-    (arith, c.first-1.given, c.first-2-1.given, c.first-3-1.given, c.first-4-1.given)
-
-pub shape_of-later : goal.shape_of-later
-shape_of-later c = omega
-    (arith, c.later-1.given, c.later-2-1.given, c.later-3-1.given, c.later-4-1.given)
-
-pub shape_of-holes : goal.shape_of-holes
-shape_of-holes c = omega
-    (arith, c.holes-1.given)
-
 pub returns : goal.returns
 returns c =
     λ few short. between (setting_of c.args.frame c.args.surface c.args.options c.args.period c.args.sense) c.args.counts.now

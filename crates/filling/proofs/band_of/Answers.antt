@@ -1,22 +1,8 @@
-use mathlib.Core.Path.{sym}
 use native.Mathlib.Omega.{arith}
-use lib.Seq.{length-take-le}
 use borrow.Author.Rules.{sfits_of}
 use Rattle.filling.proofs.Finding.{falls_held}
 use Rattle.filling.proofs.Taken.{a_inside, b_inside, ring-taken, falls-taken, counts-taken, holes-taken, band-taken, first_short, later_short}
 use Rattle.filling.proofs.band_of.Goals as goal
-
-pub slice_bounds-band_between-end : goal.slice_bounds-band_between-end
-slice_bounds-band_between-end c = sym
-    (length-take-le _ _ (let k = c.ring_reals-m.ensures in omega (arith, c.first-2-1.given)))
-
-pub slice_bounds-band_between-end-2 : goal.slice_bounds-band_between-end-2
-slice_bounds-band_between-end-2 c = sym
-    (length-take-le _ _ (let k = c.ring_reals-n.ensures in omega (arith, c.later-2-1.given)))
-
-pub slice_bounds-band_between-end-3 : goal.slice_bounds-band_between-end-3
-slice_bounds-band_between-end-3 c = sym
-    (length-take-le _ _ (let k = c.shorter-k.ensures in omega (arith, c.counts-2-1.given)))
 
 pub returns : goal.returns
 returns c = λ s f room.

@@ -22,7 +22,3 @@ overflow_add-n c = let k = numbers.room c.loop-i.invariant c.loop-i-test.true in
 -- src/lib.rt:33:5
 pub loop-i-preserved : goal.loop-i-preserved
 loop-i-preserved c = numbers.reading_turn c.loop-i.invariant c.loop-i-test.true c.wide.ensures.0 c.wide.ensures.1
-
--- src/lib.rt:27:1
-pub returns : goal.returns
-returns c = numbers.reading_end c.loop-i.invariant c.loop-i-test.false

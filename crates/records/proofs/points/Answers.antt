@@ -8,6 +8,3 @@ loop-k-init c = (counting.add_start, c.loops-l.ensures)
 pub loop-k-preserved : goal.loop-k-preserved
 loop-k-preserved c =
     (counting.add_turn c.loop-k.invariant.0 (omega arith) c.count_at-total.ensures.0 c.count_at-total.ensures.1, c.loop-k.invariant.1)
-
-pub returns : goal.returns
-returns c = (counting.add-end c.loop-k.invariant.0 (omega arith), omega arith)

@@ -2,14 +2,8 @@ use native.Mathlib.Omega.{arith}
 use Rattle.results.proofs.Rows as rows
 use Rattle.results.proofs.put_reals.Goals as goal
 
-pub loop-i-init : goal.loop-i-init
-loop-i-init c = (omega arith, rows.reals-start)
-
 pub loop-i-preserved : goal.loop-i-preserved
 loop-i-preserved c = (omega arith, rows.reals_turn c.loop-i.invariant.1 c.loop-i-test.true c.to_bits.ensures c.put.ensures)
-
-pub shape_of-out : goal.shape_of-out
-shape_of-out c = c.loop-i.invariant.1.long
 
 pub returns : goal.returns
 returns c = rows.reals-end c.loop-i.invariant.1 c.loop-i-test.false

@@ -1,4 +1,3 @@
-use native.Mathlib.Omega.{arith}
 use mathlib.Core.Path.{refl}
 use Rattle.results.proofs.Sizes as sizes
 use Rattle.results.proofs.result_size.Goals as goal
@@ -8,9 +7,6 @@ returns-then-n-lt1 c = sizes.none _ refl c.if-n-lt1.true
 
 pub returns-then-n-gt256 : goal.returns-then-n-gt256
 returns-then-n-gt256 c = sizes.too_many _ refl c.if-n-lt1.false c.if-n-gt256.true
-
-pub loop-i-init : goal.loop-i-init
-loop-i-init c = (sizes.sum-start, (refl, omega arith))
 
 pub returns-then-count-gt65535 : goal.returns-then-count-gt65535
 returns-then-count-gt65535 c =

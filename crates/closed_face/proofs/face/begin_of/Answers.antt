@@ -1,15 +1,8 @@
-use native.Mathlib.Omega.{arith}
 use Rattle.closed_face.proofs.Loops.{beginning, beginning_turn, beginning_end}
 use Rattle.closed_face.proofs.face.begin_of.Goals as goal
 
 pub loop-i-init : goal.loop-i-init
 loop-i-init c = beginning _ _ _ _ _ c.count-n.ensures.0 c.shorter-m.ensures
-
-pub offset_bounds-counts-i : goal.offset_bounds-counts-i
-offset_bounds-counts-i c = omega (arith, c.loop-i.invariant.least)
-
-pub bounds-counts-i : goal.bounds-counts-i
-bounds-counts-i c = omega (arith, c.loop-i.invariant.least)
 
 pub loop-i-preserved : goal.loop-i-preserved
 loop-i-preserved c = beginning_turn _ _ _ _ _ _ _ c.loop-i.invariant _ c.loop-i-test.true c.piece_end-from.ensures

@@ -2,8 +2,7 @@ use Rattle.closed_face.proofs.Result.{steps}
 use Rattle.closed_face.proofs.face.closed_face.Goals as goal
 
 pub returns : goal.returns
-returns c = let r = steps _ _ _ _ _ _ _ _
-    c.closed_region-outer.ensures.boxes_after
+returns c = let r = steps _ _ _ _ _ _ _ _ c.closed_region-outer.ensures.boxes_after
     _ _ _ _ _ _ _ _ _
     c.closed_region-outer.ensures.value
     (c.rephase_holes.ensures.t_after, c.rephase_holes.ensures.areas_after)

@@ -1,9 +1,5 @@
-use native.Mathlib.Omega.{arith}
 use Rattle.closed_face.proofs.first.Laws as laws
 use Rattle.closed_face.proofs.first.count_first.Goals as goal
-
-pub returns-then-n-first : goal.returns-then-n-first
-returns-then-n-first c = laws.no_loop c.args.counts.now _ _ c.if-n-first.true
 
 pub returns-then-dst-n : goal.returns-then-dst-n
 returns-then-dst-n c = laws.no_counts c.args.counts.now _ _ c.if-n-first.false c.if-dst-n.true
@@ -11,17 +7,8 @@ returns-then-dst-n c = laws.no_counts c.args.counts.now _ _ c.if-n-first.false c
 pub loop-j-init : goal.loop-j-init
 loop-j-init c = laws.moving _ _ _ c.if-n-first.false c.if-dst-n.false
 
-pub offset_bounds-counts-k : goal.offset_bounds-counts-k
-offset_bounds-counts-k c = let below = laws.place-below _ _ _ _ c.if-n-first.false c.loop-j-test.true c.place_at-k.ensures in omega arith
-
-pub bounds-counts-k : goal.bounds-counts-k
-bounds-counts-k c = let below = laws.place-below _ _ _ _ c.if-n-first.false c.loop-j-test.true c.place_at-k.ensures in omega arith
-
 pub loop-j-preserved : goal.loop-j-preserved
 loop-j-preserved c = laws.moving_turn _ _ _ _ _ _ c.loop-j.invariant c.loop-j-test.true c.place_at-k.ensures
-
-pub shape_of-dst : goal.shape_of-dst
-shape_of-dst c = c.loop-j.invariant.fill.long
 
 pub returns : goal.returns
 returns c = laws.moving_end _ _ _ _ _ c.loop-j.invariant c.loop-j-test.false

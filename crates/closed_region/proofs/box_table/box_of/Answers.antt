@@ -1,8 +1,5 @@
-use Rattle.closed_region.proofs.BoxTable.{growing, growing_turn, growing_end}
+use Rattle.closed_region.proofs.BoxTable.{growing_turn, growing_end}
 use Rattle.closed_region.proofs.box_table.box_of.Goals as goal
-
-pub loop-i-init : goal.loop-i-init
-loop-i-init c = growing _ _ _ c.count-n.ensures.0 c.empty_box-b.ensures
 
 pub loop-i-preserved : goal.loop-i-preserved
 loop-i-preserved c = growing_turn _ _ _ _ _ _ _ c.loop-i.invariant c.loop-i-test.true c.u_at-u.ensures

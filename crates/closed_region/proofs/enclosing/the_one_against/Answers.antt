@@ -13,9 +13,3 @@ loop-i-preserved-then-encloses_outermost c = search (laws.seeking_one, laws.held
 
 pub loop-i-preserved : goal.loop-i-preserved
 loop-i-preserved c = search (laws.seeking_on, laws.held_at, rules)
-
-pub returns-then-found-n-2 : goal.returns-then-found-n-2
-returns-then-found-n-2 c = laws.found_one _ _ _ _ _ _ c.loop-i.invariant c.loop-i-test.false c.if-found-n-2.true
-
-pub returns-else-found-n-2 : goal.returns-else-found-n-2
-returns-else-found-n-2 c = laws.found_none _ _ _ _ _ _ c.loop-i.invariant c.loop-i-test.false c.if-found-n-2.false

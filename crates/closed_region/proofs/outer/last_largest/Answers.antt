@@ -14,6 +14,3 @@ loop-i-preserved-then-not-abs c = laws.largest_moves _ _ _ _ _ c.loop-i.invarian
 pub loop-i-preserved : goal.loop-i-preserved
 loop-i-preserved c = laws.largest_stays _ _ _ _ _ c.loop-i.invariant c.loop-i-test.true
     c.abs.ensures c.abs-in-loop-i.ensures (not-false _ (ap not c.if-not-abs.false))
-
-pub returns : goal.returns
-returns c = laws.largest_end _ _ _ c.loop-i.invariant c.loop-i-test.false

@@ -59,10 +59,6 @@ returns-in-Refuses c = λ a.
     refused_as _ ring_conditions (strip_conditions version1) _
     (c.check_rings-found.ensures ∙ rings_judged _ _ (held _ a _ _ _ read) _ wraps_are _ c.kind-2.ensures) _ _ c.in-Refuses.is _ _ _
 
-pub slice_bounds-fill_path-end : goal.slice_bounds-fill_path-end
-slice_bounds-fill_path-end c = sym
-    c.head-2-1.given
-
 pub slice_bounds-given-end-3 : goal.slice_bounds-given-end-3
 slice_bounds-given-end-3 c = let b = counts_told _ _ _ _ c.read_counts.ensures _ c.read_many-l.ensures in omega (arith, c.given-2-1.given)
 

@@ -9,20 +9,15 @@ returns-in-At-one_ring c = refused_9 _ _ _ _ _ c.open_ring.ensures c.in_default.
     c.one_ring.ensures _ c.in-At-one_ring.is
 
 pub returns-in-At-many_rings : goal.returns-in-At-many_rings
-returns-in-At-many_rings c = refused_10 _ _ _ _ _ c.open_ring.ensures
-    c.in_default.is _ c.one_ring.ensures
+returns-in-At-many_rings c = refused_10 _ _ _ _ _ c.open_ring.ensures c.in_default.is _ c.one_ring.ensures
     c.in_default-one_ring.is _ c.many_rings.ensures _ c.in-At-many_rings.is
 
 pub returns-in-At-open_surface : goal.returns-in-At-open_surface
-returns-in-At-open_surface c = refused_11 _ _ _ _ _ c.open_ring.ensures
-    c.in_default.is _
-    c.one_ring.ensures
+returns-in-At-open_surface c = refused_11 _ _ _ _ _ c.open_ring.ensures c.in_default.is _ c.one_ring.ensures
     c.in_default-one_ring.is _ c.many_rings.ensures
     c.in_default-many_rings.is _ c.open_surface.ensures _ c.in-At-open_surface.is
 
 pub returns : goal.returns
-returns c = rings_pass _ _ _ _ _ c.open_ring.ensures
-    c.in_default.is _
-    c.one_ring.ensures
+returns c = rings_pass _ _ _ _ _ c.open_ring.ensures c.in_default.is _ c.one_ring.ensures
     c.in_default-one_ring.is _ c.many_rings.ensures
     c.in_default-many_rings.is _ c.open_surface.ensures c.in_default-open_surface.is

@@ -17,8 +17,7 @@ returns-then-count-n c = let r = no_room _ _ _ _ _ _ c.count.ensures.0
     c.side_count-su.ensures.value.0 c.side_count-sv.ensures.value.0) c.if-count-n.true in record {
       value = r.0;
       t_after = r.1.0;
-      rows_reach
-          = r.1.1;
+      rows_reach = r.1.1;
     }
 
 pub returns : goal.returns

@@ -1,4 +1,4 @@
-use Rattle.full_domain.proofs.WholeRows.{putting, putting_turn, putting_end}
+use Rattle.full_domain.proofs.WholeRows.{putting_turn, putting_end}
 use borrow.Author.Rules.{rules}
 use Rattle.full_domain.proofs.table.put_side.Goals as goal
 
@@ -6,11 +6,5 @@ pub loop-i-preserved : goal.loop-i-preserved
 loop-i-preserved c = putting_turn _ _ _ _ _ _ _ _ _ _ _ _ _ c.loop-i.invariant c.loop-i-test.true
     c.rung_of-x.ensures c.corner_along.ensures (search rules) c.put_corner.ensures
 
-pub shape_of-t : goal.shape_of-t
-shape_of-t c = c.loop-i.invariant.long
-
 pub returns : goal.returns
 returns c = putting_end _ _ _ _ _ _ _ _ _ _ c.loop-i.invariant c.loop-i-test.false
-
-pub loop-i-init : goal.loop-i-init
-loop-i-init c = putting _ _ _ _ _ _ _ _

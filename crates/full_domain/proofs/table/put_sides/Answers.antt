@@ -1,10 +1,6 @@
 use mathlib.Core.Path.{refl}
-use native.Mathlib.Omega.{arith}
 use Rattle.full_domain.proofs.WholeRows.{sides-put}
 use Rattle.full_domain.proofs.table.put_sides.Goals as goal
-
-pub put_side-requires-4 : goal.put_side-requires-4
-put_side-requires-4 c = omega (arith, c.requires)
 
 pub returns : goal.returns
 returns c = sides-put _ _ _ _ _ _ _ _ _ _ _ _ _ c.range_of-u.ensures c.range_of-v.ensures refl refl

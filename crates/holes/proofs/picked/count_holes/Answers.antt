@@ -1,14 +1,7 @@
 use mathlib.Core.Bool.{not}
 use Rattle.std.proofs.Common.{ap}
-use native.Mathlib.Omega.{arith}
-use Rattle.holes.proofs.picked.Laws.{counting, counting_ring, counting_hole, counting_end}
+use Rattle.holes.proofs.picked.Laws.{counting_ring, counting_hole, counting_end}
 use Rattle.holes.proofs.picked.count_holes.Goals as goal
-
-pub loop-i-init : goal.loop-i-init
-loop-i-init c = counting _ _ _
-
-pub overflow_add-k : goal.overflow_add-k
-overflow_add-k c = omega (arith, c.loop-i.invariant.few)
 
 pub loop-i-preserved-then-not-is_ring : goal.loop-i-preserved-then-not-is_ring
 loop-i-preserved-then-not-is_ring c =

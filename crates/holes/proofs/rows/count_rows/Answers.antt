@@ -1,12 +1,5 @@
-use Rattle.holes.proofs.rows.Laws.{counting, counting_room, counting_turn, counting_end}
+use Rattle.holes.proofs.rows.Laws.{counting_turn, counting_end}
 use Rattle.holes.proofs.rows.count_rows.Goals as goal
-
-pub loop-i-init : goal.loop-i-init
-loop-i-init c = (c.count-n.ensures.0, (c.count-n.ensures.1, counting _ _ _ _))
-
-pub behind-sum-requires : goal.behind-sum-requires
-behind-sum-requires c = counting_room _ _ _ _ _ _ _ _ _ _ c.loop-i.invariant.1.1 c.loop-i-test.true
-    c.loop-i.invariant.0 c.piece_end-to.ensures c.is_ring.ensures c.loop-i.invariant.1.0
 
 pub loop-i-preserved : goal.loop-i-preserved
 loop-i-preserved c = (

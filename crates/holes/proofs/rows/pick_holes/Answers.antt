@@ -1,7 +1,7 @@
 use mathlib.Core.Bool.{not}
 use Rattle.std.proofs.Common.{ap}
 use mathlib.Core.Path.{refl, ◌∙◌}
-use Rattle.holes.proofs.rows.Laws.{picking, picking_none, picking_forth, picking_room, picking_turn, picking_end}
+use Rattle.holes.proofs.rows.Laws.{picking, picking_none, picking_turn, picking_end}
 use Rattle.holes.proofs.rows.pick_holes.Goals as goal
 
 pub returns-then-not-has_room : goal.returns-then-not-has_room
@@ -21,18 +21,6 @@ loop-i-init c = (
   ),
 )
 
-pub pick_one-requires : goal.pick_one-requires
-pick_one-requires c = picking_forth _ _ _ _ _ _ _ _ _ _ _ _ _ c.loop-i.invariant.1.1.1 c.loop-i-test.true
-    c.loop-i.invariant.1.0 c.piece_end-to.ensures c.is_ring-ring.ensures
-
-pub behind-here-requires : goal.behind-here-requires
-behind-here-requires c = picking_room _ _ _ _ _ _ _ _ _ _ _ _ _ c.loop-i.invariant.1.1.1
-    c.loop-i-test.true
-    c.loop-i.invariant.1.0 c.piece_end-to.ensures
-    c.is_ring-ring.ensures _ c.loop-i.invariant.1.1.0
-    c.count.ensures.0
-    c.count.ensures.1
-
 pub loop-i-preserved : goal.loop-i-preserved
 loop-i-preserved c = (
   c.out-1.given ∙ c.loop-i.invariant.0,
@@ -45,9 +33,6 @@ loop-i-preserved c = (
     ),
   ),
 )
-
-pub shape_of-out : goal.shape_of-out
-shape_of-out c = c.loop-i.invariant.0
 
 pub returns : goal.returns
 returns c = picking_end _ _ _ _ _ _ _ _ _ _ c.loop-i.invariant.1.1.1 c.loop-i-test.false

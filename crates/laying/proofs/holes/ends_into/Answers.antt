@@ -1,4 +1,3 @@
-use native.Mathlib.Omega.{arith}
 use Rattle.seam.proofs.EachHole.{no_ending}
 use Rattle.laying.proofs.EachHole.{bounding, bounding_turn, bounding_end}
 use Rattle.laying.proofs.holes.ends_into.Goals as goal
@@ -9,25 +8,9 @@ returns-then-out-counts c = no_ending _ _ _ _ c.if-out-counts.true
 pub loop-i-init : goal.loop-i-init
 loop-i-init c = bounding _ _ _ _ _ c.count-n.ensures.0 c.if-out-counts.false
 
-pub end_of_part-requires : goal.end_of_part-requires
-end_of_part-requires c = (
-  let e = c.piece_end-to.ensures in let a = c.loop-i.invariant.is.at.low in let n = c.loop-i.invariant.count in omega arith,
-  let e
-      = c.piece_end-to.ensures in let n = c.loop-i.invariant.whole in omega arith,
-)
-
-pub offset_bounds-out-i : goal.offset_bounds-out-i
-offset_bounds-out-i c = let l = c.loop-i.invariant.is.fill.long in omega arith
-
-pub bounds-out-i : goal.bounds-out-i
-bounds-out-i c = let l = c.loop-i.invariant.is.fill.long in omega arith
-
 pub loop-i-preserved : goal.loop-i-preserved
 loop-i-preserved c = bounding_turn _ _ _ _ _ _ _ _ _ _ c.loop-i.invariant c.loop-i-test.true
     c.piece_end-to.ensures c.end_of_part.ensures
-
-pub shape_of-out : goal.shape_of-out
-shape_of-out c = c.loop-i.invariant.is.fill.long
 
 pub returns : goal.returns
 returns c = bounding_end _ _ _ _ _ _ _ _ c.loop-i.invariant c.loop-i-test.false

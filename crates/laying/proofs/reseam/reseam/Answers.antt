@@ -8,7 +8,4 @@ pub returns-then-high-n : goal.returns-then-high-n
 returns-then-high-n c = short_high _ _ _ _ _ _ _ c.if-low-n.false c.if-high-n.true
 
 pub returns : goal.returns
-returns c = with_room _ _ _ _ _ _ _
-    c.if-low-n.false
-    c.if-high-n.false _
-    c.reseam_with_room.ensures
+returns c = with_room _ _ _ _ _ _ _ c.if-low-n.false c.if-high-n.false _ c.reseam_with_room.ensures

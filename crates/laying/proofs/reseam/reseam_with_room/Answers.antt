@@ -7,14 +7,12 @@ pub returns-then-not-has_strip : goal.returns-then-not-has_strip
 returns-then-not-has_strip c = stripless _ _ _ _ _ _ c.least_u-lo.ensures _ c.has_strip.ensures (ap not c.if-not-has_strip.true)
 
 pub returns-then-not-any_straddles : goal.returns-then-not-any_straddles
-returns-then-not-any_straddles c = none_across _ _ _ _ _ _ c.least_u-lo.ensures _
-    c.has_strip.ensures
+returns-then-not-any_straddles c = none_across _ _ _ _ _ _ c.least_u-lo.ensures _ c.has_strip.ensures
     (ap not c.if-not-has_strip.false) _ c.onto_all.ensures _
     c.any_straddles.ensures (ap not c.if-not-any_straddles.true)
 
 pub returns-then-usable : goal.returns-then-usable
-returns-then-usable c = at_gap _ _ _ _ _ _
-    c.least_u-lo.ensures
+returns-then-usable c = at_gap _ _ _ _ _ _ c.least_u-lo.ensures
     _
     c.has_strip.ensures
     (ap not c.if-not-has_strip.false)
@@ -29,8 +27,7 @@ returns-then-usable c = at_gap _ _ _ _ _ _
     (c.cut_anew.ensures.first_after, (c.cut_anew.ensures.later_after, c.cut_anew.ensures.holes_after))
 
 pub returns-else-usable : goal.returns-else-usable
-returns-else-usable c = no_gap _ _ _ _ _ _
-    c.least_u-lo.ensures
+returns-else-usable c = no_gap _ _ _ _ _ _ c.least_u-lo.ensures
     _
     c.has_strip.ensures
     (ap not c.if-not-has_strip.false) _

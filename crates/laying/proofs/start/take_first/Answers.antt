@@ -1,11 +1,6 @@
-use native.Mathlib.Omega.{arith}
 use Rattle.tables.specs.Rows.{rows}
 use Rattle.laying.proofs.Starting.{first_taken}
 use Rattle.laying.proofs.start.take_first.Goals as goal
-
-pub shape_of-u : goal.shape_of-u
-shape_of-u c = omega
-    (arith, c.u-1.given, c.u-2-1.given)
 
 pub returns : goal.returns
 returns c = first_taken _ (rows c.args.first.now) _ c.args.u.now c.args.v.now c.args.x.now c.args.y.now

@@ -14,12 +14,6 @@ returns-then-counts-gt16 c =
 pub loop-i-init : goal.loop-i-init
 loop-i-init c = (c.count-n.ensures.0, length-rows _, recording _ _ _ _ (omega (arith, c.if-counts-gt16.false)))
 
-pub with_part-next-requires : goal.with_part-next-requires
-with_part-next-requires c = let e = c.piece_end-to.ensures in
-    let n = c.loop-i.invariant.0 in
-    let a = c.loop-i.invariant.2.at.low in
-    (omega (arith, c.if-counts-gt16.false), omega arith, omega arith)
-
 pub loop-i-preserved : goal.loop-i-preserved
 loop-i-preserved c = let inv = c.loop-i.invariant in (
   inv.0,

@@ -1,9 +1,6 @@
 use mathlib.Core.Path.{sym, ◌∙◌}
-use Rattle.records.proofs.Search.{seek_start, seek_turn, seek_found, seek_end}
+use Rattle.records.proofs.Search.{seek_turn, seek_found, seek_end}
 use Rattle.measuring.proofs.refusals.first_wrapping.Goals as goal
-
-pub loop-k-init : goal.loop-k-init
-loop-k-init c = seek_start
 
 pub returns-then-wraps_at : goal.returns-then-wraps_at
 returns-then-wraps_at c = seek_found c.loop-k.invariant c.loop-k-test.true (sym c.wraps_at.ensures ∙ c.if-wraps_at.true)

@@ -1,8 +1,5 @@
-use Rattle.measuring.proofs.Searches.{falling, falling_found, falling_turn, falling_end}
+use Rattle.measuring.proofs.Searches.{falling_found, falling_turn, falling_end}
 use Rattle.measuring.proofs.refusals.last_wrapping.Goals as goal
-
-pub loop-k-init : goal.loop-k-init
-loop-k-init c = falling _
 
 pub returns-then-wraps_at : goal.returns-then-wraps_at
 returns-then-wraps_at c = falling_found _ _ c.loop-k.invariant c.loop-k-test.true _ c.wraps_at.ensures c.if-wraps_at.true

@@ -1,10 +1,7 @@
 use mathlib.Core.Path.{sym, ◌∙◌}
-use Rattle.records.proofs.Search.{seek_start, seek_turn}
+use Rattle.records.proofs.Search.{seek_turn}
 use Rattle.measuring.proofs.Searches.{opening_found, opening_end}
 use Rattle.measuring.proofs.refusals.open_ring.Goals as goal
-
-pub loop-k-init : goal.loop-k-init
-loop-k-init c = seek_start
 
 pub returns-then-open_at : goal.returns-then-open_at
 returns-then-open_at c = opening_found _ _ _ _ c.loop-k.invariant c.loop-k-test.true (sym c.open_at.ensures ∙ c.if-open_at.true)

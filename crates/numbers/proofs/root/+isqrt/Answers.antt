@@ -2,20 +2,9 @@ use Rattle.std.proofs.Common.{◌-◌, arith}
 use Rattle.numbers.proofs.root.Laws as laws
 use Rattle.numbers.proofs.root.+isqrt.Goals as goal
 
-pub returns-then-bits-eq0 : goal.returns-then-bits-eq0
-returns-then-bits-eq0 t c = laws.no_digit _ _ c.if-bits-eq0.true c.requires.0
-
 pub isqrt-p-requires : goal.isqrt-p-requires
 isqrt-p-requires t c =
     (omega arith, (laws.rest_under c.args.x c.args.zeros c.args.bits c.if-zeros-eq0.true c.if-bits-eq0.false c.requires.0, omega arith))
-
-pub digit-requires : goal.digit-requires
-digit-requires t c =
-    let under = laws.rest_under c.args.x c.args.zeros c.args.bits c.if-zeros-eq0.true c.if-bits-eq0.false c.requires.0 in
-    (c.isqrt-p.ensures.rest, laws.small_root _ _ _ (c.args.bits - 1) c.isqrt-p.ensures under (omega arith), omega arith)
-
-pub returns-then-zeros-eq0 : goal.returns-then-zeros-eq0
-returns-then-zeros-eq0 t c = laws.last_digit _ _ _ _ _ _ c.if-zeros-eq0.true c.isqrt-p.ensures c.digit.ensures
 
 pub isqrt-p-requires-2 : goal.isqrt-p-requires-2
 isqrt-p-requires-2 t c =

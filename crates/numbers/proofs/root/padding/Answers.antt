@@ -1,10 +1,6 @@
 use Rattle.std.proofs.Common.{arith}
 use Rattle.numbers.proofs.root.Laws as laws
-use Rattle.numbers.proofs.root.Laws.{Padding}
 use Rattle.numbers.proofs.root.padding.Goals as goal
-
-pub loop-t-init : goal.loop-t-init
-loop-t-init c = laws.padding_none c.args.m c.requires.0 c.requires.1
 
 pub overflow_add-k : goal.overflow_add-k
 overflow_add-k c = let f = laws.padding_few _ _ _ c.loop-t.invariant in omega arith

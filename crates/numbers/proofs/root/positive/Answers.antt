@@ -7,9 +7,6 @@ use Rattle.numbers.proofs.root.positive.Goals.{Start}
 held : (c : Start) → T (fits binary64 c.args.x)
 held c = subst T (sym c.well_formed.0.1) tt
 
-pub float_to_bits-b : goal.float_to_bits-b
-float_to_bits-b c = laws.is_number c.args.x c.requires.above_zero
-
 pub rooted-requires : goal.rooted-requires
 rooted-requires c =
     let v = laws.value_low c.args.x (held (goal.at.rooted-requires c).Start) c.requires.above_zero c.requires.below_infinity c.if-e-eq0.true in

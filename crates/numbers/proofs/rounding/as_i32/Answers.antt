@@ -12,8 +12,7 @@ overflow_cast-result c =
     rw (
       to_z-of_z {w = w64} (sfits_of c.truncating_f64_to_i64.type_inv),
       c.truncating_f64_to_i64.ensures,
-      same-cut _ c.if-x.true
-          c.if-x-2.true,
+      same-cut _ c.if-x.true c.if-x-2.true,
     ) (cut_fits _)
 
 pub returns-then-x-2 : goal.returns-then-x-2

@@ -9,9 +9,6 @@ use Rattle.numbers.proofs.rounding.floor.Goals.{Start}
 held : (c : Start) → T (fits binary64 c.args.x)
 held c = subst T (sym c.well_formed.0.1) tt
 
-pub floor_positive-requires : goal.floor_positive-requires
-floor_positive-requires c = reals.above c.args.x c.if-x.true
-
 pub ceil_positive-requires : goal.ceil_positive-requires
 ceil_positive-requires c = reals.neg-above c.args.x c.if-x-2.true
 

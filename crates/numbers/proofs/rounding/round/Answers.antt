@@ -9,9 +9,6 @@ use Rattle.numbers.proofs.rounding.round.Goals.{Start}
 held : (c : Start) → T (fits binary64 c.args.x)
 held c = subst T (sym c.well_formed.0.1) tt
 
-pub half_up-requires : goal.half_up-requires
-half_up-requires c = reals.above c.args.x c.if-x.true
-
 pub half_up-requires-then-x-2 : goal.half_up-requires-then-x-2
 half_up-requires-then-x-2 c = reals.neg-above c.args.x c.if-x-2.true
 

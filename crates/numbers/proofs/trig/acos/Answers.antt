@@ -30,9 +30,6 @@ start c = refl
 pub loop-n-init : goal.loop-n-init
 loop-n-init c = start c.args.c
 
-pub cos-requires : goal.cos-requires
-cos-requires c = tt
-
 pub loop-n-preserved : goal.loop-n-preserved
 loop-n-preserved c = let l = c.loop-n in
     let x = c.args.c in

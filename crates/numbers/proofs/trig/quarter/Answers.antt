@@ -4,9 +4,6 @@ use Rattle.numbers.proofs.Reals as reals
 use Rattle.numbers.proofs.trig.Laws as laws
 use Rattle.numbers.proofs.trig.quarter.Goals as goal
 
-pub quarter_up-requires : goal.quarter_up-requires
-quarter_up-requires c = reals.above c.args.q c.if-q.true
-
 pub quarter_up-requires-then-q-2 : goal.quarter_up-requires-then-q-2
 quarter_up-requires-then-q-2 c = reals.neg-above c.args.q c.if-q-2.true
 

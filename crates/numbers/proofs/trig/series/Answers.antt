@@ -19,12 +19,6 @@ unfolding series_from
 ended sine w s zero h = refl
 ended sine w s (suc j) h = absurd (lt_irrefl 0 (lt_of_lt_of_le (zero-lt-suc j) h))
 
-pub loop-j-init : goal.loop-j-init
-loop-j-init c = (omega arith, refl)
-
-pub int_to_float-s : goal.int_to_float-s
-int_to_float-s c = tt
-
 pub loop-j-preserved : goal.loop-j-preserved
 loop-j-preserved c = let l = c.loop-j in
     let a = c.args in

@@ -5,12 +5,6 @@ use borrow.Author.Tests.{not-true, not-false}
 use Rattle.records.proofs.Reals as reals
 use Rattle.records.proofs.check.bad_head.Goals as goal
 
-pub loop-i-init : goal.loop-i-init
-loop-i-init c = reals.scan_start c.wide-kind.ensures.0 (omega arith)
-
-pub overflow_mul-i : goal.overflow_mul-i
-overflow_mul-i c = let z = c.loop-i.invariant.seeking.far in omega arith
-
 pub returns-then-not-head_holds : goal.returns-then-not-head_holds
 returns-then-not-head_holds c =
     let w = c.loop-i.invariant in

@@ -1,12 +1,8 @@
 use mathlib.Core.Bool.{not}
 use Rattle.std.proofs.Common.{ap}
-use native.Mathlib.Omega.{arith}
 use borrow.Author.Tests.{not-true, not-false}
 use Rattle.records.proofs.Reals as reals
 use Rattle.records.proofs.check.bad_parameter.Goals as goal
-
-pub loop-j-init : goal.loop-j-init
-loop-j-init c = reals.scan_start c.wide-kind.ensures.0 (omega arith)
 
 pub returns-then-not-uv_holds : goal.returns-then-not-uv_holds
 returns-then-not-uv_holds c =

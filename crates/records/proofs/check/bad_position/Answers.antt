@@ -1,13 +1,8 @@
 use mathlib.Core.Bool.{not}
 use Rattle.std.proofs.Common.{ap}
-use native.Mathlib.Omega.{arith}
-use mathlib.Core.Path.{refl}
 use borrow.Author.Tests.{not-true, not-false}
 use Rattle.records.proofs.Reals as reals
 use Rattle.records.proofs.check.bad_position.Goals as goal
-
-pub loop-j-init : goal.loop-j-init
-loop-j-init c = reals.scan_start refl (omega arith)
 
 pub returns-then-not-xyz_holds : goal.returns-then-not-xyz_holds
 returns-then-not-xyz_holds c =

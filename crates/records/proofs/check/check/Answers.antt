@@ -30,10 +30,6 @@ face-6 c = c.args.face.now
 abbrev face-7 : In_default-first_bad_real → List ℕ
 face-7 c = c.args.face.now
 
--- the limits, where they are asked for
-abbrev limits-1 : In_default → Limits
-limits-1 c = c.args.limits
-
 abbrev limits-2 : In_default-too_many_loops → Limits
 limits-2 c = c.args.limits
 
@@ -82,8 +78,7 @@ unfolding verdict
 returns-in-At-ends_in_counts c =
     rw (
       past-1 (goal.at.returns-in-At-ends_in_counts c).In_default,
-      past-2
-          (goal.at.returns-in-At-ends_in_counts c).In_default-too_many_loops,
+      past-2 (goal.at.returns-in-At-ends_in_counts c).In_default-too_many_loops,
       found c.ends_in_counts.ensures c.in-At-ends_in_counts.is,
     )
 
@@ -95,10 +90,8 @@ unfolding verdict
 returns-in-At-too_few_points c =
     rw (
       past-1 (goal.at.returns-in-At-too_few_points c).In_default,
-      past-2
-          (goal.at.returns-in-At-too_few_points c).In_default-too_many_loops,
-      past-3
-          (goal.at.returns-in-At-too_few_points c).In_default-ends_in_counts,
+      past-2 (goal.at.returns-in-At-too_few_points c).In_default-too_many_loops,
+      past-3 (goal.at.returns-in-At-too_few_points c).In_default-ends_in_counts,
       found c.too_few_points.ensures c.in-At-too_few_points.is,
     )
 
@@ -110,12 +103,9 @@ unfolding verdict
 returns-in-At-too_many_points c =
     rw (
       past-1 (goal.at.returns-in-At-too_many_points c).In_default,
-      past-2
-          (goal.at.returns-in-At-too_many_points c).In_default-too_many_loops,
-      past-3
-          (goal.at.returns-in-At-too_many_points c).In_default-ends_in_counts,
-      past-4
-          (goal.at.returns-in-At-too_many_points c).In_default-too_few_points,
+      past-2 (goal.at.returns-in-At-too_many_points c).In_default-too_many_loops,
+      past-3 (goal.at.returns-in-At-too_many_points c).In_default-ends_in_counts,
+      past-4 (goal.at.returns-in-At-too_many_points c).In_default-too_few_points,
       found c.too_many_points.ensures c.in-At-too_many_points.is,
     )
 
@@ -129,10 +119,8 @@ returns-in-At-wrong_length c =
       past-1 (goal.at.returns-in-At-wrong_length c).In_default,
       past-2 (goal.at.returns-in-At-wrong_length c).In_default-too_many_loops,
       past-3 (goal.at.returns-in-At-wrong_length c).In_default-ends_in_counts,
-      past-4
-          (goal.at.returns-in-At-wrong_length c).In_default-too_few_points,
-      past-5
-          (goal.at.returns-in-At-wrong_length c).In_default-too_many_points,
+      past-4 (goal.at.returns-in-At-wrong_length c).In_default-too_few_points,
+      past-5 (goal.at.returns-in-At-wrong_length c).In_default-too_many_points,
       found c.wrong_length.ensures c.in-At-wrong_length.is,
     )
 
@@ -144,16 +132,11 @@ unfolding verdict
 returns-in-At-first_bad_real c =
     rw (
       past-1 (goal.at.returns-in-At-first_bad_real c).In_default,
-      past-2
-          (goal.at.returns-in-At-first_bad_real c).In_default-too_many_loops,
-      past-3
-          (goal.at.returns-in-At-first_bad_real c).In_default-ends_in_counts,
-      past-4
-          (goal.at.returns-in-At-first_bad_real c).In_default-too_few_points,
-      past-5
-          (goal.at.returns-in-At-first_bad_real c).In_default-too_many_points,
-      past-6
-          (goal.at.returns-in-At-first_bad_real c).In_default-wrong_length,
+      past-2 (goal.at.returns-in-At-first_bad_real c).In_default-too_many_loops,
+      past-3 (goal.at.returns-in-At-first_bad_real c).In_default-ends_in_counts,
+      past-4 (goal.at.returns-in-At-first_bad_real c).In_default-too_few_points,
+      past-5 (goal.at.returns-in-At-first_bad_real c).In_default-too_many_points,
+      past-6 (goal.at.returns-in-At-first_bad_real c).In_default-wrong_length,
       found c.first_bad_real.ensures c.in-At-first_bad_real.is,
     )
 
@@ -163,11 +146,9 @@ returns c =
     rw (
       past-1 (goal.at.returns c).In_default,
       past-2 (goal.at.returns c).In_default-too_many_loops,
-      past-3
-          (goal.at.returns c).In_default-ends_in_counts,
+      past-3 (goal.at.returns c).In_default-ends_in_counts,
       past-4 (goal.at.returns c).In_default-too_few_points,
-      past-5
-          (goal.at.returns c).In_default-too_many_points,
+      past-5 (goal.at.returns c).In_default-too_many_points,
       past-6 (goal.at.returns c).In_default-wrong_length,
       past-7
           ((goal.at.returns c).In_default-first_bad_real),

@@ -25,8 +25,7 @@ returns-then-i-eq11 c =
       le-ltb _ _ c.if-i-lt9.false,
       ne_eqb _ _ c.if-i-eq9.false,
       ne_eqb _ _ c.if-i-eq10.false,
-      eq-eqb _ _
-          c.if-i-eq11.true,
+      eq-eqb _ _ c.if-i-eq11.true,
     )) refl refl c.between-then-i-eq11.ensures
 
 pub returns : goal.returns
@@ -36,6 +35,5 @@ returns c =
       le-ltb _ _ c.if-i-lt9.false,
       ne_eqb _ _ c.if-i-eq9.false,
       ne_eqb _ _ c.if-i-eq10.false,
-      ne_eqb _ _
-          c.if-i-eq11.false,
+      ne_eqb _ _ c.if-i-eq11.false,
     )) refl refl c.between-2.ensures

@@ -1,10 +1,6 @@
 use native.Mathlib.Omega.{arith}
-use Rattle.records.proofs.Search.{seek_start}
 use Rattle.records.proofs.Counting as counting
 use Rattle.records.proofs.check.too_few_points.Goals as goal
-
-pub loop-k-init : goal.loop-k-init
-loop-k-init c = (seek_start, c.loops-l.ensures)
 
 pub returns-then-count_at-lt-MIN_POINTS : goal.returns-then-count_at-lt-MIN_POINTS
 returns-then-count_at-lt-MIN_POINTS c =

@@ -21,8 +21,7 @@ returns-then-face-gt1 c =
       le-ltb _ _ c.if-face-lt-HEADER_SIZE.false,
       eq-eqb _ _ c.if-face-ne1.false,
       le-ltb _ _ c.if-face-gt4.false,
-      lt-ltb _ _
-          c.if-face-gt1.true,
+      lt-ltb _ _ c.if-face-gt1.true,
     )
 
 pub returns-then-face-lt1 : goal.returns-then-face-lt1
@@ -32,8 +31,7 @@ returns-then-face-lt1 c =
       le-ltb _ _ c.if-face-lt-HEADER_SIZE.false,
       eq-eqb _ _ c.if-face-ne1.false,
       le-ltb _ _ c.if-face-gt4.false,
-      le-ltb _ _
-          c.if-face-gt1.false,
+      le-ltb _ _ c.if-face-gt1.false,
       lt-ltb _ _ c.if-face-lt1.true,
     )
 
@@ -44,8 +42,7 @@ returns-then-face-gt64 c =
       le-ltb _ _ c.if-face-lt-HEADER_SIZE.false,
       eq-eqb _ _ c.if-face-ne1.false,
       le-ltb _ _ c.if-face-gt4.false,
-      le-ltb _ _
-          c.if-face-gt1.false,
+      le-ltb _ _ c.if-face-gt1.false,
       le-ltb _ _ c.if-face-lt1.false,
       lt-ltb _ _ c.if-face-gt64.true,
     )
@@ -57,8 +54,7 @@ returns c =
       le-ltb _ _ c.if-face-lt-HEADER_SIZE.false,
       eq-eqb _ _ c.if-face-ne1.false,
       le-ltb _ _ c.if-face-gt4.false,
-      le-ltb _ _
-          c.if-face-gt1.false,
+      le-ltb _ _ c.if-face-gt1.false,
       le-ltb _ _ c.if-face-lt1.false,
       le-ltb _ _ c.if-face-gt64.false,
     )

@@ -19,10 +19,6 @@ returns-then-face-loops c = reading.no_corners _ _ (omega arith) c.if-face-loops
 pub returns-then-count-n : goal.returns-then-count-n
 returns-then-count-n c = reading.no_corners-room _ _ c.points-n.ensures.0 c.count.ensures.0 c.if-count-n.true
 
-pub fill_corners-requires : goal.fill_corners-requires
-fill_corners-requires c = reading.corners-room _ _ c.points-n.ensures.0 c.count.ensures.0 (omega arith)
-    c.if-face-loops.false c.if-count-n.false
-
 pub returns : goal.returns
 returns c = reading.corners_read _ _ _
     (reading.corners-room _ _ c.points-n.ensures.0 c.count.ensures.0 (omega arith) c.if-face-loops.false c.if-count-n.false)

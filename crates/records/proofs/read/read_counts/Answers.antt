@@ -24,9 +24,6 @@ pub loop-k-preserved : goal.loop-k-preserved
 loop-k-preserved c =
     (columns.counts_turn _ c.loops-l.ensures.0 c.loop-k.invariant.0 c.loop-k-test.true c.count_at.ensures.0, c.loop-k.invariant.1)
 
-pub shape_of-dst : goal.shape_of-dst
-shape_of-dst c = c.loop-k.invariant.0.long
-
 pub returns : goal.returns
 returns c =
     reading.counts_read _ _ (reading.there _ c.counts_there.ensures (ap not c.if-not-counts_there.false)) c.loops-l.ensures.0

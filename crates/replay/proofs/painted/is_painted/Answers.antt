@@ -1,19 +1,13 @@
 use mathlib.Core.Path.{refl, sym, ◌∙◌}
 use mathlib.Core.Bool.{true≢false}
-use Rattle.replay.proofs.Painting.{seen_start, seen_turn, seen_end, seen_other}
+use Rattle.replay.proofs.Painting.{seen_end, seen_other}
 use Rattle.replay.proofs.painted.is_painted.Goals as goal
-
-pub loop-i-init : goal.loop-i-init
-loop-i-init c = seen_start
 
 pub returns-then-bytes-i : goal.returns-then-bytes-i
 returns-then-bytes-i c = record {
   painted = λ e. absurd (true≢false (sym e));
   value = seen_other c.loop-i.invariant c.loop-i-test.true (λ e. c.if-bytes-i.true (e ∙ sym c.shade.ensures));
 }
-
-pub loop-i-preserved : goal.loop-i-preserved
-loop-i-preserved c = seen_turn c.loop-i.invariant (c.if-bytes-i.false ∙ c.shade.ensures)
 
 pub returns : goal.returns
 returns c = record {

@@ -1,8 +1,5 @@
-use Rattle.rings.proofs.Decisions.{standing, standing_found, standing_turn, standing_end}
+use Rattle.rings.proofs.Decisions.{standing_found, standing_turn, standing_end}
 use Rattle.rings.proofs.choices.stands_at_the_cut.Goals as goal
-
-pub loop-i-init : goal.loop-i-init
-loop-i-init c = standing _ _ _
 
 pub returns-then-step_stands : goal.returns-then-step_stands
 returns-then-step_stands c = standing_found _ _ _ _ _ c.loop-i.invariant c.loop-i-test.true

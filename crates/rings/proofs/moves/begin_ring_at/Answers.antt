@@ -8,5 +8,4 @@ pub returns-then-s-lt4 : goal.returns-then-s-lt4
 returns-then-s-lt4 c = stays_few _ _ _ 4 c.if-s-lt4.true
 
 pub returns : goal.returns
-returns c = turned_else _ _ _ 4 _ c.if-k-eq0.false c.if-s-lt4.false
-    c.turn.ensures
+returns c = turned_else _ _ _ 4 _ c.if-k-eq0.false c.if-s-lt4.false c.turn.ensures

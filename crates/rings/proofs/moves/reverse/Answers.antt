@@ -6,11 +6,7 @@ pub loop-i-init : goal.loop-i-init
 loop-i-init c = reversing _
 
 pub loop-i-preserved : goal.loop-i-preserved
-loop-i-preserved c = reversing_turn nan _ _ _ _ _ c.loop-i.invariant c.loop-i-test.true
-    c.swap.ensures
-
-pub shape_of-s : goal.shape_of-s
-shape_of-s c = c.loop-i.invariant.long
+loop-i-preserved c = reversing_turn nan _ _ _ _ _ c.loop-i.invariant c.loop-i-test.true c.swap.ensures
 
 pub returns : goal.returns
 returns c = reversing_end _ _ _ _ c.loop-i.invariant c.loop-i-test.false

@@ -1,12 +1,7 @@
 use lib.Ieee.{nan}
-use lib.ListN.{length-set}
 use Rattle.rings.proofs.Turning.{turned_here}
 use Rattle.tables.specs.Moves.{moved_by}
-use borrow.Author.Rules.{rules}
 use Rattle.rings.proofs.moves.turn.Goals as goal
-
-pub shape_of-s : goal.shape_of-s
-shape_of-s c = simp length-set (search rules)
 
 pub returns : goal.returns
 returns c = turned_here nan (moved_by c.args.again) (moved_by c.args.put) c.args.k c.args.s.now _ _ _ c.requires c.begin_part.ensures

@@ -1,8 +1,5 @@
-use Rattle.rings.proofs.ReadRows.{searching, searching_turn, searching_found, searching_end}
+use Rattle.rings.proofs.ReadRows.{searching_turn, searching_found, searching_end}
 use Rattle.rings.proofs.table_choices.first_past.Goals as goal
-
-pub loop-i-init : goal.loop-i-init
-loop-i-init c = searching _ _ _ c.count-n.ensures.0
 
 pub returns-then-u_at-cut : goal.returns-then-u_at-cut
 returns-then-u_at-cut c = searching_found _ _ _ _ _ c.loop-i.invariant c.loop-i-test.true c.u_at.ensures c.if-u_at-cut.true

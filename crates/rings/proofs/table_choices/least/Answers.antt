@@ -1,14 +1,11 @@
 use Rattle.loops.specs.Span.{least_of}
-use Rattle.rings.proofs.ReadRows.{reading, reading_turn, reading_end}
+use Rattle.rings.proofs.ReadRows.{reading, reading_end}
 use lib.Ieee.{div, neg, of_bits}
 use Rattle.rings.proofs.table_choices.least.Goals as goal
 
 pub loop-i-init : goal.loop-i-init
 unfolding div neg of_bits
 loop-i-init c = reading _ _ _ _ c.count-n.ensures.0
-
-pub loop-i-preserved : goal.loop-i-preserved
-loop-i-preserved c = reading_turn _ _ _ _ _ _ _ _ c.loop-i.invariant c.loop-i-test.true c.u_at.ensures c.min-lo.ensures
 
 pub returns : goal.returns
 unfolding least_of

@@ -7,8 +7,7 @@ use native.Mathlib.Omega.{arith}
 use Rattle.rings.proofs.table_turns.begin.Goals as goal
 
 pub returns-then-n-k : goal.returns-then-n-k
-returns-then-n-k c = rows-past _ _ _ c.count-n.ensures.0 _ _ c.if-n-k.true
-    c.move_u.ensures
+returns-then-n-k c = rows-past _ _ _ c.count-n.ensures.0 _ _ c.if-n-k.true c.move_u.ensures
 
 pub reverse_part-requires-2 : goal.reverse_part-requires-2
 reverse_part-requires-2 c = omega

@@ -9,5 +9,4 @@ pub returns-then-count-lt2 : goal.returns-then-count-lt2
 returns-then-count-lt2 c = rows_few _ _ _ c.count.ensures.0 _ c.if-count-lt2.true
 
 pub returns : goal.returns
-returns c = rows-recut _ _ _ c.count.ensures.0 _ _ c.if-k-eq0.false
-    c.if-count-lt2.false c.turn.ensures
+returns c = rows-recut _ _ _ c.count.ensures.0 _ _ c.if-k-eq0.false c.if-count-lt2.false c.turn.ensures

@@ -1,10 +1,7 @@
 use mathlib.Core.Bool.{not}
 use Rattle.std.proofs.Common.{ap}
-use Rattle.seam.proofs.Spans.{counting, counting_found, counting_turn, counting_end}
+use Rattle.seam.proofs.Spans.{counting_found, counting_turn, counting_end}
 use Rattle.seam.proofs.gap.below.Goals as goal
-
-pub loop-i-init : goal.loop-i-init
-loop-i-init c = counting _ _
 
 pub returns-then-not-s-i : goal.returns-then-not-s-i
 returns-then-not-s-i c = counting_found _ _ _ c.loop-i.invariant c.loop-i-test.true (ap not c.if-not-s-i.true)

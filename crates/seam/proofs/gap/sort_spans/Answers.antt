@@ -8,17 +8,9 @@ pub loop-i-init : goal.loop-i-init
 loop-i-init c = sorting _ _ c.if-low-high.false
 
 pub loop-i-preserved : goal.loop-i-preserved
-loop-i-preserved c = sorting_turn _ _ _ _ _ _ _ _ c.loop-i.invariant
-    c.loop-i-test.true
-    c.below_after.ensures.value
+loop-i-preserved c = sorting_turn _ _ _ _ _ _ _ _ c.loop-i.invariant c.loop-i-test.true c.below_after.ensures.value
     c.rotate_left.ensures c.rotate_left-in-loop-i.ensures
     c.low-1.given c.high-1.given
-
-pub shape_of-low : goal.shape_of-low
-shape_of-low c = c.loop-i.invariant.low_long
-
-pub shape_of-high : goal.shape_of-high
-shape_of-high c = c.loop-i.invariant.high_long
 
 pub returns : goal.returns
 returns c = let r = sorting_end _ _ _ _ _ c.loop-i.invariant c.loop-i-test.false in record { low_after = r.0; high_after = r.1 }

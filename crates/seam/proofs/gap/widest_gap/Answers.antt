@@ -1,8 +1,5 @@
-use Rattle.seam.proofs.Spans.{passing, passing_turn, passing-end}
+use Rattle.seam.proofs.Spans.{passing_turn, passing-end}
 use Rattle.seam.proofs.gap.widest_gap.Goals as goal
-
-pub loop-i-init : goal.loop-i-init
-loop-i-init c = passing _ _ _
 
 pub loop-i-preserved : goal.loop-i-preserved
 loop-i-preserved c = passing_turn _ _ _ _ c.shorter-n.ensures _ _ _ c.loop-i.invariant

@@ -1,16 +1,6 @@
-use native.Mathlib.Omega.{arith}
 use borrow.Author.Rules.{rules}
 use Rattle.starts.proofs.Laws as laws
 use Rattle.starts.proofs.trials.first_serving.Goals as goal
-
-pub loop-k-init : goal.loop-k-init
-loop-k-init c = laws.trying _ _ _ _ _ c.requires c.starts-all.ensures
-
-pub serves-requires : goal.serves-requires
-serves-requires c = c.loop-k.invariant.room
-
-pub shape_of-trial-then-serves : goal.shape_of-trial-then-serves
-shape_of-trial-then-serves c = omega (arith, c.loop-k.invariant.long)
 
 pub returns-then-serves : goal.returns-then-serves
 returns-then-serves c = laws.trying_found _ _ _ _ _ _ _ c.loop-k.invariant _
@@ -19,9 +9,6 @@ returns-then-serves c = laws.trying_found _ _ _ _ _ _ _ c.loop-k.invariant _
 pub loop-k-preserved : goal.loop-k-preserved
 loop-k-preserved c = laws.trying_turn _ _ _ _ _ _ _ c.loop-k.invariant _ _ (search rules)
     c.loop-k-test.true c.serves.ensures c.if-serves.false
-
-pub shape_of-trial : goal.shape_of-trial
-shape_of-trial c = c.loop-k.invariant.long
 
 pub returns : goal.returns
 returns c = laws.trying_end _ _ _ _ _ _ _ c.loop-k.invariant c.loop-k-test.false

@@ -1,6 +1,5 @@
 use mathlib.Core.Bool.{not}
 use Rattle.std.proofs.Common.{ap}
-use mathlib.Core.Path.{◌∙◌}
 use Rattle.strip.proofs.repeats.Laws as laws
 use Rattle.strip.proofs.closing.keep_successive.Goals as goal
 
@@ -19,9 +18,6 @@ loop-i-preserved-then-not-repeated_by c = laws.fold_other _ _ _ _ _ _ _ _ _ c.lo
 pub loop-i-preserved : goal.loop-i-preserved
 loop-i-preserved c = laws.fold_repeat _ _ _ _ _ _ _ _ _ c.loop-i.invariant c.loop-i-test.true
     c.strip_corner-next.ensures c.repeated_by.ensures (ap not c.if-not-repeated_by.false)
-
-pub shape_of-out : goal.shape_of-out
-shape_of-out c = c.out-2-1.given ∙ c.loop-i.invariant.long
 
 pub returns : goal.returns
 returns c = let r = laws.fold_end _ _ _ _ _ _ _ _ c.loop-i.invariant c.loop-i-test.false

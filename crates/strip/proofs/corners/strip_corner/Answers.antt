@@ -11,13 +11,11 @@ returns-then-shorter-eq0 c = laws.of_none _ _ _ _ _ _ _ c.count-n.ensures.0 _ _ 
     c.shorter.ensures c.if-i-n.false c.if-shorter-eq0.true c.from_end.ensures
 
 pub returns-then-past-eq0 : goal.returns-then-past-eq0
-returns-then-past-eq0 c = laws.of_first _ _ _ _ _ _ _ c.count-n.ensures.0 _ _
-    c.count.ensures.0 c.shorter.ensures
+returns-then-past-eq0 c = laws.of_first _ _ _ _ _ _ _ c.count-n.ensures.0 _ _ c.count.ensures.0 c.shorter.ensures
     c.if-i-n.false c.if-shorter-eq0.false _
     (c.u_at.ensures ∙ u-at _ 0) _ c.if-past-eq0.true c.corner_at-then-past-eq0.ensures c.moved_to.ensures
 
 pub returns : goal.returns
-returns c = laws.of_far _ _ _ _ _ _ _ c.count-n.ensures.0 _ _
-    c.count.ensures.0 c.shorter.ensures
+returns c = laws.of_far _ _ _ _ _ _ _ c.count-n.ensures.0 _ _ c.count.ensures.0 c.shorter.ensures
     c.if-i-n.false c.if-shorter-eq0.false _ (c.u_at.ensures ∙ u-at _ 0)
     c.if-past-eq0.false c.far_corner.ensures

@@ -3,9 +3,6 @@ use Rattle.std.proofs.Common.{ap}
 use Rattle.strip.proofs.repeats.Laws as laws
 use Rattle.strip.proofs.repeats.trim.Goals as goal
 
-pub loop-r-init : goal.loop-r-init
-loop-r-init c = laws.trimming _ _ c.count-r.ensures.0
-
 pub returns-then-not-repeated_by : goal.returns-then-not-repeated_by
 returns-then-not-repeated_by c = laws.trim_stop _ _ _ c.loop-r.invariant c.loop-r-test.true _ _
     c.corner_at-first.ensures c.corner_at.ensures c.repeated_by.ensures

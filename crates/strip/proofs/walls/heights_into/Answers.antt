@@ -1,6 +1,3 @@
-use mathlib.Core.Path.{sym}
-use native.Mathlib.Omega.{arith}
-use lib.Seq.{length-take-le}
 use Rattle.strip.proofs.walls.Laws as laws
 use Rattle.strip.proofs.walls.heights_into.Goals as goal
 
@@ -16,9 +13,6 @@ returns-then-lower-upper c = let given = c.args in
     (laws.heights_up given.surface given.options given.lower given.upper given.dst.now _ c.wall_count-n.ensures.value _ c.if-dst-n.false
     c.ladder_into.ensures c.if-lower-upper.true) in
     record { dst_after = r.0; dst_as_kept = r.1 }
-
-pub slice_bounds-reverse-end-2 : goal.slice_bounds-reverse-end-2
-slice_bounds-reverse-end-2 c = sym (length-take-le _ _ (omega arith))
 
 pub returns : goal.returns
 returns c = let given = c.args in

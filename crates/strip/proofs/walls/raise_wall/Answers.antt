@@ -17,8 +17,7 @@ returns-then-count-n c = laws.raised_short (row_on c.args.frame c.args.surface (
     c.inner_between-n.ensures _ c.count.ensures.0 c.if-count-n.true
 
 pub spread-requires : goal.spread-requires
-spread-requires c = laws.as_many _ _ _ _ c.wall-1.given c.count.ensures.0
-    c.if-count-n.false
+spread-requires c = laws.as_many _ _ _ _ c.wall-1.given c.count.ensures.0 c.if-count-n.false
 
 pub returns : goal.returns
 returns c = laws.raised (row_on c.args.frame c.args.surface) _ _ _ _ _ _ _ _ _ (c.u_at.ensures ∙ u-at _ 0)

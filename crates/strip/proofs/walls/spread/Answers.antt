@@ -13,9 +13,3 @@ loop-i-preserved c = laws.spread_turn _ _ _ _ _ _
     c.loop-i.invariant c.loop-i-test.true
     (λ k. record { u = c.args.u; v = get_or c.loop-i.wall (c.loop-i.i - 1) nan; at = c.point_at-at.ensures k })
     c.put_corner.ensures c.wall-1.given
-
-pub shape_of-wall : goal.shape_of-wall
-shape_of-wall c = c.loop-i.invariant.long
-
-pub returns : goal.returns
-returns c = laws.spread_end _ _ _ _ _ c.loop-i.invariant c.loop-i-test.false

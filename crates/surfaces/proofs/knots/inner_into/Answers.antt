@@ -1,11 +1,8 @@
-use Rattle.std.proofs.Common.{sym, ap, ◌∙◌, arith, length-take-le}
+use Rattle.std.proofs.Common.{ap, ◌∙◌}
 use lib.Seq.{sets}
 use Rattle.surfaces.proofs.knots.Inner as laws
 use Rattle.surfaces.proofs.knots.Rungs.{inner-kept}
 use Rattle.surfaces.proofs.knots.inner_into.Goals as goal
-
-pub slice_bounds-merge_even-end-then-m-out : goal.slice_bounds-merge_even-end-then-m-out
-slice_bounds-merge_even-end-then-m-out c = sym (length-take-le _ _ (omega arith))
 
 pub returns-then-m-out : goal.returns-then-m-out
 returns-then-m-out c = let counted = c.inner_count-m.ensures in

@@ -16,14 +16,11 @@ loop-i-preserved c = walk.writing_near _ _ _ _ _ _ c.loop-i.invariant c.loop-i-t
     c.division-x.ensures c.near.ensures (ap not c.if-not-near.false)
 
 pub returns-then-lo-hi : goal.returns-then-lo-hi
-returns-then-lo-hi c = let r = walk.writing_ended _ _ _ _ _ _ c.loop-i.invariant
-    c.loop-i-test.false _
-    c.slack-e.ensures
+returns-then-lo-hi c = let r = walk.writing_ended _ _ _ _ _ _ c.loop-i.invariant c.loop-i-test.false _ c.slack-e.ensures
     c.division-last.ensures
     c.put.ensures c.if-lo-hi.true
     c.larger.ensures c.put-then-lo-hi.ensures in record { out_after = r.0; end_written = r.1 }
 
 pub returns-else-lo-hi : goal.returns-else-lo-hi
-returns-else-lo-hi c = let r = walk.writing_end _ _ _ _ _ _ c.loop-i.invariant c.loop-i-test.false _
-    c.slack-e.ensures
+returns-else-lo-hi c = let r = walk.writing_end _ _ _ _ _ _ c.loop-i.invariant c.loop-i-test.false _ c.slack-e.ensures
     c.division-last.ensures c.put.ensures c.if-lo-hi.false in record { out_after = r.0; end_written = r.1 }

@@ -12,9 +12,6 @@ overflow_mul-a c = omega (arith, length-rows c.args.src.now)
 pub overflow_mul-e : goal.overflow_mul-e
 overflow_mul-e c = omega (arith, length-rows c.args.src.now)
 
-pub overflow_mul-at : goal.overflow_mul-at
-overflow_mul-at c = omega (arith, length-rows c.args.dst.now)
-
 pub offset_bounds-src-a : goal.offset_bounds-src-a
 offset_bounds-src-a c = omega (arith, length-rows c.args.src.now)
 

@@ -1,17 +1,11 @@
-use Rattle.tables.proofs.Taking.{taking, taking_turn, taking_end, taking_none}
+use Rattle.tables.proofs.Taking.{taking_turn, taking_end, taking_none}
 use Rattle.tables.proofs.copies.us_into.Goals as goal
 
 pub returns-then-dst-n : goal.returns-then-dst-n
 returns-then-dst-n c = taking_none _ _ _ _ c.count-n.ensures.0 c.if-dst-n.true
 
-pub loop-i-init : goal.loop-i-init
-loop-i-init c = taking _ _ _ _ c.count-n.ensures.0 c.if-dst-n.false
-
 pub loop-i-preserved : goal.loop-i-preserved
 loop-i-preserved c = taking_turn _ _ _ _ _ _ _ c.loop-i.invariant c.loop-i-test.true c.u_at.ensures
-
-pub shape_of-dst : goal.shape_of-dst
-shape_of-dst c = c.loop-i.invariant.fill.long
 
 pub returns : goal.returns
 returns c = taking_end _ _ _ _ _ _ c.loop-i.invariant c.loop-i-test.false

@@ -6,11 +6,7 @@ pub loop-i-init : goal.loop-i-init
 loop-i-init c = turning _ _ c.count-j.ensures.0
 
 pub loop-i-preserved : goal.loop-i-preserved
-loop-i-preserved c = turning_turn _ _ _ _ _ c.loop-i.invariant c.loop-i-test.true (search rules)
-    c.swap_rows.ensures
-
-pub shape_of-t : goal.shape_of-t
-shape_of-t c = c.loop-i.invariant.long
+loop-i-preserved c = turning_turn _ _ _ _ _ c.loop-i.invariant c.loop-i-test.true (search rules) c.swap_rows.ensures
 
 pub returns : goal.returns
 returns c = turning_end _ _ _ _ c.loop-i.invariant c.loop-i-test.false

@@ -7,14 +7,8 @@ use Rattle.tables.proofs.slices.copy_into.Goals as goal
 pub returns-then-not-has_room : goal.returns-then-not-has_room
 returns-then-not-has_room c = laws.writing_none _ _ _ _ _ refl c.has_room.ensures (ap not c.if-not-has_room.true)
 
-pub loop-i-init : goal.loop-i-init
-loop-i-init c = laws.writing _ _ _ _ _ refl c.has_room.ensures (ap not c.if-not-has_room.false)
-
 pub loop-i-preserved : goal.loop-i-preserved
 loop-i-preserved c = laws.writing_turn _ _ _ _ _ _ _ c.loop-i.invariant c.loop-i-test.true refl
-
-pub shape_of-dst : goal.shape_of-dst
-shape_of-dst c = c.loop-i.invariant.fill.long
 
 pub returns : goal.returns
 returns c = laws.writing_end _ _ _ _ _ _ c.loop-i.invariant c.loop-i-test.false

@@ -1,9 +1,0 @@
-use mathlib.Core.Path.{ap, ◌∙◌}
-use Rattle.compared.specs.Records.{read_of}
-use Rattle.compared.proofs.of_records.compared_read_corners.Goals as goal
-
-pub returns : goal.returns
-returns c = let read = c.read_corners.ensures in record {
-  value = c.read_of.ensures ∙ ap read_of read.answer;
-  t_after = read.is;
-}

@@ -1,7 +1,0 @@
-use Rattle.full_domain.proofs.boundary.range_of.Goals as goal
-
-pub returns-in-U : goal.returns-in-U
-returns-in-U c = rw (c.in-U.is, c.domain-d.ensures)
-
-pub returns-in-V : goal.returns-in-V
-returns-in-V c = rw (c.in-V.is, c.domain-d.ensures)

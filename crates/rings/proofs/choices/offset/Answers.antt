@@ -1,4 +1,0 @@
-use Rattle.rings.proofs.choices.offset.Goals as goal
-
-pub returns : goal.returns
-returns c = cc
