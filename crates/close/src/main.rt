@@ -81,10 +81,9 @@ fn read_input(input: &mut Stdin, bytes: &mut [u8]) -> Input
 }
 
 // What is to be written of the `n` bytes that were read, at the front of `out`; of a refusal the place
-// is there whole. It is the answer to
-// every input of which these are as many first bytes as `face` has room for, or all where there are
-// fewer. Those are what `read_input` leaves where a read moves the input's bytes in their order and
-// answers 0 only at its end, as POSIX says and no contract can.
+// is there whole. It is the answer to every input of which these are as many first bytes as `face` has
+// room for, or all where there are fewer. Those are what `read_input` leaves where a read moves the
+// input's bytes in their order and answers 0 only at its end, as POSIX says and no contract can.
 fn answer_input(face: &[u8; READ], n: usize, out: &mut [u8; LENT]) -> usize
     requires { n ≤ length face.now }
     ensures upper_bound { result ≤ length out.new }
