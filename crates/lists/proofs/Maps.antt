@@ -1,8 +1,11 @@
 -- What is done to each element of a list is done alike to its parts and to its reverse.
-use Prim.Native.Nat.{ℕ, zero, suc}
+use Prim.Native.Nat.{ℕ, zero, suc, ◌+◌}
 use mathlib.Core.Path.{◌≡◌, refl, sym, ap, ◌∙◌}
 use mathlib.Core.List.{List, [], ◌∷◌, ◌++◌, map, reverse, reverse-cons, map-append, drop_last}
-use lib.ListN.{take, drop}
+use mathlib.Core.Bool.{Bool, true, false, cond}
+use lib.Dec.{leb}
+use lib.ListN.{take, drop, length, length-map}
+use Rattle.lists.specs.Placed.{placed}
 
 module _ {A B : Type 0} (g : A → B) where
   pub map-take : (k : ℕ) (xs : List A) → map g (take k xs) ≡ take k (map g xs)
@@ -25,3 +28,11 @@ module _ {A B : Type 0} (g : A → B) where
   map-drop_last [] = refl
   map-drop_last (x ∷ []) = refl
   map-drop_last (x ∷ y ∷ xs) = ap (λ (l : List B). g x ∷ l) (map-drop_last (y ∷ xs))
+
+  pub map-placed : (at : ℕ) (w d : List A) → map g (placed at w d) ≡ placed at (map g w) (map g d)
+  unfolding placed
+  map-placed at w d = rw (length-map w g, length-map d g) (by_room (leb (at + length w) (length d)))
+    where
+      by_room : (b : Bool) → map g (cond b (take at d ++ w ++ drop (at + length w) d) d) ≡ cond b (take at (map g d) ++ map g w ++ drop (at + length w) (map g d)) (map g d)
+      by_room false = refl
+      by_room true = simp (map-append, map-take, map-drop)

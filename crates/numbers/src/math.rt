@@ -15,6 +15,8 @@ pub struct Vec2 {
     pub v: f64,
 }
 
+// The layout is C's, as that of the tables of corners that hold positions.
+#[repr(C)]
 #[derive(Clone, Copy)]
 pub struct Vec3 {
     pub x: f64,

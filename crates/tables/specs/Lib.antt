@@ -1,4 +1,3 @@
 pub mod Corners
 pub mod Rows
 pub mod Moves
-pub mod Columns

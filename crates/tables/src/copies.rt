@@ -1,42 +1,26 @@
 // Rows of one table copied into another. What does not fit is not written.
-ghost use Rattle.std.specs.Prelude.{◌≡◌, ◌-◌, ◌≤◌, length, take, drop};
+ghost use Rattle.std.specs.Prelude.{◌≡◌};
 ghost use Rattle.lists.specs.Placed.{placed};
 ghost use Rattle.tables.specs.Corners.{us};
 ghost use Rattle.tables.specs.Rows.{rows};
 
-use super::corners::{count, u_at};
+use super::corners::Corner;
 use super::slices::copy_into;
 
-// The rows of src from one up to another into dst, from row `at` on.
-fn copy_part(dst: &mut [f64], at: usize, src: &[f64], from: usize, to: usize)
-    requires { (from ≤ to) × (to ≤ length (rows src.now)) }
-    ensures { rows dst.new ≡ placed at (take (to - from) (drop from (rows src.now))) (rows dst.old) }
-{
-    if count(dst) < at {
-        return;
-    }
-    let a = 5 * from;
-    let e = 5 * to;
-    copy_into(dst, 5 * at, &src[a..e]);
-}
-
-pub fn copy_rows(dst: &mut [f64], at: usize, src: &[f64])
+pub fn copy_rows(dst: &mut [Corner], at: usize, src: &[Corner])
     ensures { rows dst.new ≡ placed at (rows src.now) (rows dst.old) }
 {
-    copy_part(dst, at, src, 0, count(src));
+    copy_into(dst, at, src);
 }
 
 // The u of the rows into the front of dst, for what is decided by u alone.
-pub fn us_into(dst: &mut [f64], t: &[f64])
+pub fn us_into(dst: &mut [f64], t: &[Corner])
     ensures { dst.new ≡ placed 0 (us (rows t.now)) dst.old }
 {
-    let n = count(t);
-    if dst.len() < n {
+    if dst.len() < t.len() {
         return;
     }
-    let mut i = 0;
-    while i < n {
-        dst[i] = u_at(t, i);
-        i += 1;
+    for i in 0..t.len() {
+        dst[i] = t[i].u;
     }
 }

@@ -6,6 +6,8 @@ ghost use Rattle.tables.specs.Rows.{rows, corner_of, none};
 
 use numbers::math::Vec3;
 
+// The layout is C's, so that the comparison with the Rust can lend tables.
+#[repr(C)]
 #[derive(Clone, Copy)]
 pub struct Corner {
     pub u: f64,
@@ -13,29 +15,10 @@ pub struct Corner {
     pub at: Vec3,
 }
 
-// How many rows there are. That their reals can be counted keeps sums of places in reach.
-pub fn count(t: &[f64]) -> usize
-    ensures { (result ≡ length (rows t.now)) × (5 * result < 2 ^ 64) }
+// What is read past the last row: all five are NaN.
+fn no_corner() -> Corner
+    ensures { corner_of result ≡ none }
 {
-    t.len() / 5
-}
-
-// Past the last row all five are NaN.
-pub fn corner_at(t: &[f64], i: usize) -> Corner
-    ensures { corner_of result ≡ get_or (rows t.now) i none }
-{
-    if i < t.len() / 5 {
-        let p = 5 * i;
-        return Corner {
-            u: t[p],
-            v: t[p + 1],
-            at: Vec3 {
-                x: t[p + 2],
-                y: t[p + 3],
-                z: t[p + 4],
-            },
-        };
-    }
     let nan = 0.0 / 0.0;
     Corner {
         u: nan,
@@ -48,43 +31,55 @@ pub fn corner_at(t: &[f64], i: usize) -> Corner
     }
 }
 
+// How many rows there are. That their reals can be counted keeps sums of places in reach.
+pub fn count(t: &[Corner]) -> usize
+    ensures { (result ≡ length (rows t.now)) × (5 * result < 2 ^ 64) }
+{
+    t.len()
+}
+
+// Past the last row all five are NaN.
+pub fn corner_at(t: &[Corner], i: usize) -> Corner
+    ensures { corner_of result ≡ get_or (rows t.now) i none }
+{
+    if i < t.len() {
+        return t[i];
+    }
+    no_corner()
+}
+
 // Past the last row nothing is stored.
-pub fn put_corner(t: &mut [f64], i: usize, c: Corner)
+pub fn put_corner(t: &mut [Corner], i: usize, c: Corner)
     ensures { rows t.new ≡ set (rows t.old) i (corner_of c) }
 {
-    if i < t.len() / 5 {
-        let p = 5 * i;
-        t[p] = c.u;
-        t[p + 1] = c.v;
-        t[p + 2] = c.at.x;
-        t[p + 3] = c.at.y;
-        t[p + 4] = c.at.z;
+    if i < t.len() {
+        t[i] = c;
     }
 }
 
-pub fn u_at(t: &[f64], i: usize) -> f64
+pub fn u_at(t: &[Corner], i: usize) -> f64
     ensures { result ≡ get_or (us (rows t.now)) i nan }
 {
-    if i < t.len() / 5 {
-        return t[5 * i];
+    if i < t.len() {
+        return t[i].u;
     }
     0.0 / 0.0
 }
 
-pub fn v_at(t: &[f64], i: usize) -> f64
+pub fn v_at(t: &[Corner], i: usize) -> f64
     ensures { result ≡ get_or (vs (rows t.now)) i nan }
 {
-    if i < t.len() / 5 {
-        return t[5 * i + 1];
+    if i < t.len() {
+        return t[i].v;
     }
     0.0 / 0.0
 }
 
 // The u of row i anew.
-pub fn put_u(t: &mut [f64], i: usize, u: f64)
+pub fn put_u(t: &mut [Corner], i: usize, u: f64)
     ensures { rows t.new ≡ set (rows t.old) i (move_u (λ _. u) (get_or (rows t.old) i none)) }
 {
-    if i < t.len() / 5 {
-        t[5 * i] = u;
+    if i < t.len() {
+        t[i].u = u;
     }
 }

@@ -1,8 +1,7 @@
-// Corner tables: a loop of corners is one slice of reals, five to a corner, u, v, x, y, z, row behind
-// row. What stands behind the last whole row is no row. Slices of any length.
+// Corner tables: a loop of corners is a slice of them, and what is done to one, a part of one, and the
+// loops of a face, which stand one behind the other. Slices of any length.
 #![tactic(auto)]
 
-pub mod columns;
 pub mod copies;
 pub mod corners;
 pub mod moves;

@@ -1,5 +1,5 @@
-// Passes over one slice of reals, for slices of any length. What does not fit is not written: each
-// contract says by `placed` that nothing changes then.
+// Passes over one slice, for slices of any length. What does not fit is not written: each contract
+// says by `placed` that nothing changes then.
 ghost use Rattle.std.specs.Prelude.{◌≡◌, ◌+◌, min, leb, get_or, set};
 ghost use Rattle.std.specs.Float.{nan};
 ghost use Rattle.lists.specs.Parts.{part_of};
@@ -9,7 +9,7 @@ ghost use Rattle.lists.specs.Placed.{placed};
 pub fn shorter(m: usize, n: usize) -> usize
     ensures { result ≡ min m n }
 {
-    if m < n { m } else { n }
+    m.min(n)
 }
 
 // The element at i, and a NaN past the end: a read that asks nothing.
@@ -23,7 +23,7 @@ pub fn at(s: &[f64], i: usize) -> f64
 }
 
 // A store at i, and none past the end.
-pub fn put(s: &mut [f64], i: usize, x: f64)
+pub fn put<T: Copy>(s: &mut [T], i: usize, x: T)
     ensures { s.new ≡ set s.old i x }
 {
     if i < s.len() {
@@ -42,17 +42,12 @@ pub fn has_room(room: usize, from: usize, n: usize) -> bool
 }
 
 // src into dst, from `from` on.
-pub fn copy_into(dst: &mut [f64], from: usize, src: &[f64])
+pub fn copy_into<T: Copy>(dst: &mut [T], from: usize, src: &[T])
     ensures { dst.new ≡ placed from src.now dst.old }
 {
     let n = src.len();
-    if !has_room(dst.len(), from, n) {
-        return;
-    }
-    let mut i = 0;
-    while i < n {
-        dst[from + i] = src[i];
-        i += 1;
+    if has_room(dst.len(), from, n) {
+        dst[from..from + n].copy_from_slice(src);
     }
 }
 
@@ -61,26 +56,14 @@ pub fn copy_into(dst: &mut [f64], from: usize, src: &[f64])
 pub fn piece_end(n: usize, from: usize, count: usize) -> usize
     ensures { result ≡ min (from + count) n }
 {
-    if n < from {
-        return n;
-    }
-    if n - from < count {
-        return n;
-    }
-    from + count
+    n.min(from.saturating_add(count))
 }
 
 // The elements from start on, count of them or as many as there are.
-pub fn part(xs: &[f64], start: usize, count: usize) -> &[f64]
+pub fn part<T>(xs: &[T], start: usize, count: usize) -> &[T]
     ensures { result.now ≡ part_of start count xs.now }
 {
     let n = xs.len();
-    if n < start {
-        return &xs[n..n];
-    }
-    if n - start < count {
-        return &xs[start..n];
-    }
-    let end = start + count;
-    &xs[start..end]
+    let from = shorter(start, n);
+    &xs[from..piece_end(n, from, count)]
 }

@@ -1,7 +1,6 @@
+use Rattle.std.proofs.Common.{sym, rules}
 use Rattle.tables.proofs.Rows.{length-rows}
-use mathlib.Core.Path.{sym}
-use native.Mathlib.Omega.{arith}
 use Rattle.tables.proofs.corners.count.Goals as goal
 
 pub returns : goal.returns
-returns c = (sym (length-rows _), omega arith)
+returns c = (sym (length-rows _), search rules)

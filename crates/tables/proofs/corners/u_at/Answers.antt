@@ -1,6 +1,6 @@
-use Rattle.tables.proofs.Rows.{u-at-place, u-at-past}
+use Rattle.std.proofs.Common.{sym}
 use lib.Ieee.{div, of_bits}
-use mathlib.Core.Path.{sym}
+use Rattle.tables.proofs.Rows.{u-at-place, u-at-past}
 use Rattle.tables.proofs.corners.u_at.Goals as goal
 
 pub returns-then-i-t : goal.returns-then-i-t

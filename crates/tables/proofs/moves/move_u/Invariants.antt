@@ -1,11 +1,7 @@
-use Prim.Native.Nat.{◌-◌}
-use Rattle.tables.specs.Corners.{move_u}
+use Rattle.lists.proofs.Mapping.{Mapping}
 use Rattle.tables.specs.Moves.{moved_by}
-use Rattle.tables.proofs.InPlace.{Changing}
+use Rattle.tables.proofs.Rows.{absent, held_u}
 use Rattle.tables.proofs.moves.move_u.Given as goal
 
-abbrev pub invariant-loop-i : goal.invariant-loop-i
-invariant-loop-i l = Changing (move_u (moved_by l.m)) l.initial.t l.n l.t l.i
-
-abbrev pub decreases-loop-i : goal.decreases-loop-i
-decreases-loop-i l = l.n - l.i
+abbrev pub invariant-loop-c : goal.invariant-loop-c
+invariant-loop-c l = Mapping absent (held_u (moved_by l.m)) l.fn.t l.c-items l.c-index

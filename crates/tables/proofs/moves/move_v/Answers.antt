@@ -1,10 +1,16 @@
-use borrow.Author.Rules.{rules}
+use Rattle.std.proofs.Common.{ap, ◌∙◌, arith, get_or}
+use Rattle.lists.proofs.Mapping.{mapping, mapping_turn, mapping_end}
 use Rattle.tables.specs.Moves.{moved_by}
-use Rattle.tables.specs.Rows.{corner_of}
-use Rattle.tables.proofs.InPlace.{changing_turn, moved_v}
+use Rattle.tables.specs.Rows.{rows}
+use Rattle.tables.proofs.Rows.{absent, put-v, rows-each-v}
 use Rattle.tables.proofs.moves.move_v.Goals as goal
 
-pub loop-i-preserved : goal.loop-i-preserved
-loop-i-preserved c = changing_turn _ _ _ _ _ _ _ _ c.loop-i.invariant c.loop-i-test.true c.corner_at-c.ensures
-    (moved_v (moved_by c.args.m) (corner_of c.corner_at-c.result) _ c.moved.ensures)
-    (search rules) c.put_corner.ensures
+pub loop-c-init : goal.loop-c-init
+loop-c-init c = mapping absent _ _
+
+pub loop-c-preserved : goal.loop-c-preserved
+loop-c-preserved c = mapping_turn absent _ _ _ _ _ c.loop-c.invariant (omega arith)
+    (put-v (moved_by c.args.m) (get_or c.loop-c.c-items c.loop-c.c-index absent) _ c.moved-c.ensures)
+
+pub returns : goal.returns
+returns c = ap rows (mapping_end absent _ _ _ _ c.loop-c.invariant (omega arith)) ∙ rows-each-v _ _
