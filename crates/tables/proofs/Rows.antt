@@ -9,7 +9,7 @@ use Rattle.numbers.specs.declared.math.Vec3.{Vec3}
 use Rattle.lists.proofs.Maps.{map-reverse}
 use Rattle.lists.proofs.Elements.{get_d_map}
 use Rattle.tables.specs.Corners.{Corner, Corners, us, vs, move_u, move_v}
-use Rattle.tables.specs.Rows.{rows, corner_of, none}
+use Rattle.tables.specs.Rows.{rows, corner_of, held_u, none}
 use Rattle.tables.specs.declared.corners.Corner.{Corner as Held}
 
 -- what is read past the end
@@ -95,10 +95,7 @@ module _ (t : List Held) (i : ℕ) (h : length t ≤ i) where
 
 -- ---- what is done to each
 
--- a corner's u or its v moved, as the code holds it
-abbrev pub held_u : (Float → Float) → Held → Held
-held_u f c = record { u = f c.u; v = c.v; at = c.at }
-
+-- a corner's v moved, as the code holds it
 abbrev pub held_v : (Float → Float) → Held → Held
 held_v f c = record { u = c.u; v = f c.v; at = c.at }
 

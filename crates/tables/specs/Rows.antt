@@ -1,5 +1,5 @@
 -- A table is a list of the corners that the code holds; its rows are those corners, each with the position that it carries.
-use Rattle.std.specs.Prelude.{List, map}
+use Rattle.std.specs.Prelude.{List, map, Float}
 use Rattle.std.specs.Float.{nan}
 use Rattle.numbers.specs.declared.math.Vec3.{Vec3}
 use Rattle.tables.specs.Corners.{Corner, Corners}
@@ -8,6 +8,10 @@ use Rattle.tables.specs.declared.corners.Corner.{Corner as Held}
 -- a corner that the code has in hand
 abbrev pub corner_of : Held → Corner Vec3
 corner_of c = record { u = c.u; v = c.v; at = c.at }
+
+-- it with its u moved
+abbrev pub held_u : (Float → Float) → Held → Held
+held_u f c = record { u = f c.u; v = c.v; at = c.at }
 
 unfoldable pub rows : List Held → Corners Vec3
 rows t = map corner_of t

@@ -6,6 +6,7 @@ ghost use Rattle.tables.specs.Moves.{moved_by, unless_zero};
 ghost use Rattle.tables.specs.Rows.{rows};
 
 use super::corners::Corner;
+use super::ring_point::RingPoint;
 
 // A step along u or v, or none: what comes round a ring has its u raised, and all else stays.
 #[derive(Clone, Copy)]
@@ -25,21 +26,34 @@ pub fn moved(x: f64, m: Move) -> f64
     }
 }
 
-pub fn move_u(t: &mut [Corner], m: Move)
-    ensures { rows t.new ≡ map (move_u (moved_by m)) (rows t.old) }
+pub fn slide<T: RingPoint>(s: &mut [T], m: Move)
+    ensures { s.new ≡ map (T.slid m) s.old }
 {
-    for c in t {
-        c.u = moved(c.u, m);
+    for x in s {
+        *x = x.slid(m);
     }
 }
 
 // A step of zero is not made: -0.0 + 0.0 would be 0.0.
+pub fn slide_unless_zero<T: RingPoint>(s: &mut [T], step: f64, m: Move)
+    ensures { s.new ≡ unless_zero step (T.slid m) s.old }
+{
+    if step != 0.0 {
+        slide(s, m);
+    }
+}
+
+// The same of a table, in its rows.
+pub fn move_u(t: &mut [Corner], m: Move)
+    ensures { rows t.new ≡ map (move_u (moved_by m)) (rows t.old) }
+{
+    slide(t, m);
+}
+
 pub fn move_unless_zero(t: &mut [Corner], step: f64, m: Move)
     ensures { rows t.new ≡ unless_zero step (move_u (moved_by m)) (rows t.old) }
 {
-    if step != 0.0 {
-        move_u(t, m);
-    }
+    slide_unless_zero(t, step, m);
 }
 
 pub fn move_v(t: &mut [Corner], m: Move)

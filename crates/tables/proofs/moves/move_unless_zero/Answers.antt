@@ -1,8 +1,7 @@
-use Rattle.tables.proofs.Unless.{moved_unless, stays_if}
+use Rattle.std.proofs.Common.{ap, ◌∙◌}
+use Rattle.tables.specs.Rows.{rows}
+use Rattle.tables.proofs.Unless.{rows_unless}
 use Rattle.tables.proofs.moves.move_unless_zero.Goals as goal
 
-pub returns-then-step : goal.returns-then-step
-returns-then-step c = moved_unless _ _ _ _ c.if-step.true c.move_u.ensures
-
-pub returns-else-step : goal.returns-else-step
-returns-else-step c = stays_if _ _ _ c.if-step.false
+pub returns : goal.returns
+returns c = ap rows c.slide_unless_zero.ensures ∙ rows_unless _ _ _
