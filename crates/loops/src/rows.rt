@@ -7,7 +7,7 @@ ghost use Rattle.loops.specs.Wrap.{net_wrap, wrap_every};
 
 use super::wrap::turns_counted;
 use surfaces::surface::Period;
-use tables::corners::{count, u_at, v_at};
+use tables::corners::Corner;
 
 // The row after row i of n, round the loop.
 fn next(n: usize, i: usize) -> usize
@@ -17,33 +17,29 @@ fn next(n: usize, i: usize) -> usize
     if i + 1 < n { i + 1 } else { 0 }
 }
 
-pub fn signed_area(t: &[f64]) -> f64
+pub fn signed_area(t: &[Corner]) -> f64
     ensures { result ≡ area_of (us (rows t.now)) (vs (rows t.now)) }
 {
-    let n = count(t);
     let mut sum = 0.0;
-    let mut i = 0;
-    while i < n {
-        let j = next(n, i);
-        sum = sum + (u_at(t, i) * v_at(t, j) - u_at(t, j) * v_at(t, i));
-        i += 1;
+    for (i, c) in t.iter().enumerate() {
+        let d = t[next(t.len(), i)];
+        sum = sum + (c.u * d.v - d.u * c.v);
     }
     sum * 0.5
 }
 
 // Where u comes round every p. A loop carries its closing point, so its travel is from the first u to
 // the last.
-fn wrap_every(t: &[f64], p: f64) -> i32
+fn wrap_every(t: &[Corner], p: f64) -> i32
     ensures { result ≡ wrap_every p (us (rows t.now)) }
 {
-    let n = count(t);
-    if n < 2 {
-        return 0;
+    match t {
+        [first, .., last] => turns_counted((last.u - first.u) / p),
+        _ => 0,
     }
-    turns_counted((u_at(t, n - 1) - u_at(t, 0)) / p)
 }
 
-pub fn net_wrap(t: &[f64], period: Period) -> i32
+pub fn net_wrap(t: &[Corner], period: Period) -> i32
     ensures { result ≡ net_wrap period (us (rows t.now)) }
 {
     match period {

@@ -1,8 +1,7 @@
 -- The cyclic sum, turn by turn.
 use Prim.Native.Nat.{ℕ, ◌+◌, ◌%◌, ◌≤◌, ◌<◌, min}
-use mathlib.Core.Path.{◌≡◌, refl, sym}
+use mathlib.Core.Path.{◌≡◌, refl}
 use mathlib.Core.List.{List}
-use native.Mathlib.Nat.{mod-eq_of_lt, mod_self}
 use native.Mathlib.Omega.{arith}
 use native.Mathlib.Numerals.{add-one}
 use lib.ListN.{length}
@@ -10,12 +9,6 @@ use lib.Ieee.{Float}
 use Rattle.numbers.specs.Constants.{half}
 use Rattle.numbers.specs.Rounded.{◌⊕◌, ◌⊗◌}
 use Rattle.loops.specs.Area.{cross_at, cross_sum, area_of}
-
-pub next_within : (n i : ℕ) → i + 1 < n → i + 1 ≡ (i + 1) % n
-next_within n i h = sym (mod-eq_of_lt h)
-
-pub next_round : (n i : ℕ) → i < n → n ≤ i + 1 → 0 ≡ (i + 1) % n
-next_round n i h k = let e : i + 1 ≡ n = omega arith in rw e (sym (mod_self n))
 
 -- s is the sum of the first i cross products
 pub record Summing (us vs : List Float) (n : ℕ) (s : Float) (i : ℕ) : Type 0 where
