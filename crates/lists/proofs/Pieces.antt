@@ -13,12 +13,12 @@ use Rattle.lists.proofs.Parts.{on_part_lem}
 
 module _ {A : Type 0} where
   -- n of them, or as many as there are
-  take-most : (n : ℕ) (xs : List A) → take (min n (length xs)) xs ≡ take n xs
+  pub take-most : (n : ℕ) (xs : List A) → take (min n (length xs)) xs ≡ take n xs
   take-most zero xs = rw (zero-min (length xs))
   take-most (suc n) [] = rw (min-zero (suc n))
   take-most (suc n) (x ∷ xs) = rw (suc-min-suc n (length xs)) (ap (λ (l : List A). x ∷ l) (take-most n xs))
 
-  drop-most : (n : ℕ) (xs : List A) → drop (min n (length xs)) xs ≡ drop n xs
+  pub drop-most : (n : ℕ) (xs : List A) → drop (min n (length xs)) xs ≡ drop n xs
   drop-most zero xs = rw (zero-min (length xs))
   drop-most (suc n) [] = rw (min-zero (suc n))
   drop-most (suc n) (x ∷ xs) = rw (suc-min-suc n (length xs)) (drop-most n xs)

@@ -3,6 +3,5 @@ pub mod Lengths
 pub mod Turning
 pub mod Decisions
 pub mod Shifts
-pub mod TurnedRows
 pub mod ReadRows
 pub mod ByU

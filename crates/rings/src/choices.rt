@@ -1,27 +1,28 @@
-// What the search for a start decides by the u of a ring, which stand in a slice of their own.
-ghost use Rattle.std.specs.Prelude.{◌≡◌};
+// What the search for a start decides by the u of a ring.
+ghost use Rattle.std.specs.Prelude.{◌≡◌, map};
 ghost use Rattle.rings.specs.Choices.{first_of, begins_backward, offset, nearest, on_seam, step_stands, stands_at_the_cut, serve};
 
 use numbers::order::abs;
 use numbers::rounding::round;
+use tables::ring_point::RingPoint;
 
 // Of no points a NaN.
-pub fn first_of(u: &[f64]) -> f64
-    ensures { result ≡ first_of u.now }
+pub fn first_of<T: RingPoint>(ring: &[T]) -> f64
+    ensures { result ≡ first_of (map T.u_of ring.now) }
 {
-    if u.len() == 0 {
+    if ring.len() == 0 {
         return 0.0 / 0.0;
     }
-    u[0]
+    ring[0].u()
 }
 
-pub fn begins_backward(u: &[f64]) -> bool
-    ensures { result ≡ begins_backward u.now }
+pub fn begins_backward<T: RingPoint>(ring: &[T]) -> bool
+    ensures { result ≡ begins_backward (map T.u_of ring.now) }
 {
-    if u.len() <= 3 {
+    if ring.len() <= 3 {
         return false;
     }
-    u[1] < u[0]
+    ring[1].u() < ring[0].u()
 }
 
 // How far u lies from the cut in periods, whole ones left out.
@@ -33,23 +34,19 @@ fn offset(u: f64, cut: f64, period: f64) -> f64
 }
 
 // Of the open points the first of those nearest the cut.
-pub fn nearest(u: &[f64], cut: f64, period: f64) -> usize
-    ensures { result ≡ nearest period cut u.now }
+pub fn nearest<T: RingPoint>(ring: &[T], cut: f64, period: f64) -> usize
+    ensures { result ≡ nearest period cut (map T.u_of ring.now) }
 {
-    if u.len() < 2 {
+    if ring.len() < 2 {
         return 0;
     }
-    let points = u.len() - 1;
     let mut best = 0;
-    let mut low = offset(u[0], cut, period);
-    let mut i = 0;
-    while i < points {
-        let j = i;
-        let x = offset(u[j], cut, period);
-        i += 1;
+    let mut low = offset(ring[0].u(), cut, period);
+    for i in 0..ring.len() - 1 {
+        let x = offset(ring[i].u(), cut, period);
         if x < low {
             low = x;
-            best = j;
+            best = i;
         }
     }
     best
@@ -77,12 +74,10 @@ fn step_stands(a: f64, b: f64, cut: f64, period: f64) -> bool
 pub fn stands_at_the_cut(u: &[f64], cut: f64, period: f64) -> bool
     ensures { result ≡ stands_at_the_cut period cut u.now }
 {
-    let mut i = 0;
-    while i + 1 < u.len() {
+    for i in 0..u.len().saturating_sub(1) {
         if step_stands(u[i], u[i + 1], cut, period) {
             return true;
         }
-        i += 1;
     }
     false
 }

@@ -4,66 +4,53 @@ ghost use Rattle.loops.specs.Branch.{LeavesTurn};
 ghost use Rattle.loops.specs.Span.{least_of, greatest_of};
 ghost use Rattle.tables.specs.Corners.{us};
 ghost use Rattle.tables.specs.Rows.{rows};
-ghost use Rattle.rings.specs.Choices.{least_u, greatest_u, first_of, strip_shift, straddles, first_past, first_open_past};
+ghost use Rattle.rings.specs.Choices.{least_u, greatest_u, strip_shift, straddles, first_past, first_open_past};
 
 use numbers::order::{max, min};
 use numbers::rounding::floor;
-use tables::corners::{count, u_at};
+use tables::corners::Corner;
 
-pub fn least(t: &[f64]) -> f64
+pub fn least(t: &[Corner]) -> f64
     ensures { result ≡ least_of (us (rows t.now)) }
 {
-    let n = count(t);
     let mut lo = 1.0 / 0.0;
-    let mut i = 0;
-    while i < n {
-        lo = min(lo, u_at(t, i));
-        i += 1;
+    for c in t {
+        lo = min(lo, c.u);
     }
     lo
 }
 
-pub fn greatest(t: &[f64]) -> f64
+pub fn greatest(t: &[Corner]) -> f64
     ensures { result ≡ greatest_of (us (rows t.now)) }
 {
-    let n = count(t);
     let mut hi = -1.0 / 0.0;
-    let mut i = 0;
-    while i < n {
-        hi = max(hi, u_at(t, i));
-        i += 1;
+    for c in t {
+        hi = max(hi, c.u);
     }
     hi
 }
 
-pub fn least_u(first: &[f64], later: &[f64]) -> f64
+pub fn least_u(first: &[Corner], later: &[Corner]) -> f64
     ensures { result ≡ least_u (us (rows first.now)) (us (rows later.now)) }
 {
     min(least(first), least(later))
 }
 
-pub fn greatest_u(first: &[f64], later: &[f64]) -> f64
+pub fn greatest_u(first: &[Corner], later: &[Corner]) -> f64
     ensures { result ≡ greatest_u (us (rows first.now)) (us (rows later.now)) }
 {
     max(greatest(first), greatest(later))
 }
 
-// Of no rows a NaN.
-pub fn first_of(t: &[f64]) -> f64
-    ensures { result ≡ first_of (us (rows t.now)) }
-{
-    u_at(t, 0)
-}
-
 // The whole periods by which a hole lies past the strip's begin.
-pub fn strip_shift(t: &[f64], lo: f64, period: f64) -> f64
+pub fn strip_shift(t: &[Corner], lo: f64, period: f64) -> f64
     ensures value { result ≡ strip_shift period lo (us (rows t.now)) }
     ensures leaves_turn { LeavesTurn (least_of (us (rows t.now))) lo period result }
 {
     floor((least(t) - lo) / period) * period
 }
 
-pub fn straddles(t: &[f64], lo: f64, period: f64) -> bool
+pub fn straddles(t: &[Corner], lo: f64, period: f64) -> bool
     ensures { result ≡ straddles period lo (us (rows t.now)) }
 {
     if greatest(t) > lo + period + 1e-12 {
@@ -73,28 +60,23 @@ pub fn straddles(t: &[f64], lo: f64, period: f64) -> bool
 }
 
 // The first row at or past the cut, and 0 where there is none.
-fn first_past(t: &[f64], cut: f64) -> usize
+fn first_past(t: &[Corner], cut: f64) -> usize
     ensures { result ≡ first_past cut (us (rows t.now)) }
 {
-    let n = count(t);
-    let mut i = 0;
-    while i < n {
-        if u_at(t, i) >= cut {
+    for (i, c) in t.iter().enumerate() {
+        if c.u >= cut {
             return i;
         }
-        i += 1;
     }
     0
 }
 
 // Of the open points: the last row, which repeats the first, is set aside.
-pub fn first_open_past(t: &[f64], cut: f64) -> usize
+pub fn first_open_past(t: &[Corner], cut: f64) -> usize
     ensures { result ≡ first_open_past cut (us (rows t.now)) }
 {
-    let n = count(t);
-    if n == 0 {
+    if t.len() == 0 {
         return 0;
     }
-    let e = 5 * (n - 1);
-    first_past(&t[0..e], cut)
+    first_past(&t[..t.len() - 1], cut)
 }

@@ -1,12 +1,6 @@
-use mathlib.Core.Path.{◌∙◌}
-use Rattle.loops.proofs.Turns.{begun-past}
-use Rattle.rings.proofs.Turning.{begun_here}
-use Rattle.tables.specs.Moves.{moved_by}
+use Rattle.std.proofs.Common.{refl}
+use Rattle.rings.proofs.Turning.{begun_left}
 use Rattle.rings.proofs.moves.begin.Goals as goal
 
-pub returns-then-n-k : goal.returns-then-n-k
-returns-then-n-k c = c.move_all.ensures ∙ begun-past _ _ _ c.if-n-k.true
-
 pub returns : goal.returns
-returns c = begun_here (moved_by c.args.again) c.args.k c.args.s.now _ _ _ _ c.if-n-k.false c.reverse_part.ensures
-    c.reverse_part-2.ensures c.reverse.ensures c.move_part.ensures
+returns g c = begun_left _ _ _ _ _ _ _ _ c.min-round.ensures c.rotate_left.ensures.after refl refl c.slide.ensures

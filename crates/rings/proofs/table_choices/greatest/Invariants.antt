@@ -1,12 +1,10 @@
-use Prim.Native.Nat.{◌-◌}
-use Rattle.numbers.specs.Order.{max_of}
-use Rattle.rings.proofs.ReadRows.{Reading}
+use Rattle.std.proofs.Common.{true}
 use lib.Ieee.{inf}
-use mathlib.Core.Bool.{true}
+use Rattle.numbers.specs.Order.{max_of}
+use Rattle.lists.proofs.Folds.{Folding}
+use Rattle.tables.specs.Corners.{us}
+use Rattle.tables.specs.Rows.{rows}
 use Rattle.rings.proofs.table_choices.greatest.Given as goal
 
-abbrev pub invariant-loop-i : goal.invariant-loop-i
-invariant-loop-i l = Reading max_of (inf true) l.t l.n l.hi l.i
-
-abbrev pub decreases-loop-i : goal.decreases-loop-i
-decreases-loop-i l = l.n - l.i
+abbrev pub invariant-loop-c : goal.invariant-loop-c
+invariant-loop-c l = Folding max_of (inf true) (us (rows l.t)) l.hi l.c-index

@@ -1,12 +1,10 @@
-use Prim.Native.Nat.{◌-◌}
-use Rattle.numbers.specs.Order.{min_of}
-use Rattle.rings.proofs.ReadRows.{Reading}
+use Rattle.std.proofs.Common.{false}
 use lib.Ieee.{inf}
-use mathlib.Core.Bool.{false}
+use Rattle.numbers.specs.Order.{min_of}
+use Rattle.lists.proofs.Folds.{Folding}
+use Rattle.tables.specs.Corners.{us}
+use Rattle.tables.specs.Rows.{rows}
 use Rattle.rings.proofs.table_choices.least.Given as goal
 
-abbrev pub invariant-loop-i : goal.invariant-loop-i
-invariant-loop-i l = Reading min_of (inf false) l.t l.n l.lo l.i
-
-abbrev pub decreases-loop-i : goal.decreases-loop-i
-decreases-loop-i l = l.n - l.i
+abbrev pub invariant-loop-c : goal.invariant-loop-c
+invariant-loop-c l = Folding min_of (inf false) (us (rows l.t)) l.lo l.c-index
