@@ -5,6 +5,8 @@ use Rattle.numbers.specs.Rounded.{◌⊕◌, ◌⊖◌}
 use Rattle.loops.specs.Branch.{branch_shift}
 use Rattle.tables.specs.Corners.{Corner, Corners, us, move_u}
 use Rattle.tables.specs.Moves.{unless_zero}
+use Rattle.tables.specs.declared.moves.Move.{Move}
+use Rattle.tables.specs.declared.moves.Move.TheVariants.{Up, Down}
 use Rattle.rings.specs.Choices.{first_of, first_from, nearest, begins_backward, serve}
 use Rattle.rings.specs.Turns.{begin_ring_at, align_at}
 
@@ -50,3 +52,12 @@ module _ (period : Float) {A : Type 0} where
   -- "Only when there is none does the Rust's fallback run": past a backward first step
   unfoldable pub start : Corners A → Corners A → ℕ
   start first later = let k = first_serving first later in cond (ltb k (starts first)) k (cond (begins_backward (us first)) 1 0)
+
+-- `later_for` of a ring of any points, corners or their u alone, of which `u` reads the u and `slid` moves one along u
+module _ {A : Type 0} (u : A → Float) (slid : Move → A → A) (period : Float) where
+  unfoldable pub later_by : Float → List A → List A
+  later_by cut r =
+      let k = nearest period cut (map u r) in
+      let aligned = align_at (slid (Up period)) (slid (Down (branch_shift (get_or (map u r) k nan) cut period))) k r in
+      let step = cut ⊖ first_of (map u aligned) in
+      unless_zero step (slid (Up step)) aligned

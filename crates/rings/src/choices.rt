@@ -1,19 +1,27 @@
 // What the search for a start decides by the u of a ring.
-ghost use Rattle.std.specs.Prelude.{◌≡◌, map};
+ghost use Rattle.std.specs.Prelude.{◌≡◌, map, get_or};
+ghost use Rattle.std.specs.Float.{nan};
 ghost use Rattle.rings.specs.Choices.{first_of, begins_backward, offset, nearest, on_seam, step_stands, stands_at_the_cut, serve};
 
 use numbers::order::abs;
 use numbers::rounding::round;
 use tables::ring_point::RingPoint;
 
+// The u of point k, and a NaN past the end.
+pub fn u_at<T: RingPoint>(ring: &[T], k: usize) -> f64
+    ensures { result ≡ get_or (map T.u_of ring.now) k nan }
+{
+    if k < ring.len() {
+        return ring[k].u();
+    }
+    0.0 / 0.0
+}
+
 // Of no points a NaN.
 pub fn first_of<T: RingPoint>(ring: &[T]) -> f64
     ensures { result ≡ first_of (map T.u_of ring.now) }
 {
-    if ring.len() == 0 {
-        return 0.0 / 0.0;
-    }
-    ring[0].u()
+    u_at(ring, 0)
 }
 
 pub fn begins_backward<T: RingPoint>(ring: &[T]) -> bool

@@ -2,12 +2,12 @@
 use Prim.Native.Nat.{ℕ, ◌+◌, ◌-◌, ◌≤◌, ◌<◌}
 use mathlib.Core.Path.{◌≡◌, refl, sym, ap, ◌∙◌}
 use mathlib.Core.Bool.{Bool, true, false, cond}
-use mathlib.Core.List.{List, ◌++◌, append_assoc}
+use mathlib.Core.List.{List, ◌++◌, map, append_assoc}
 use native.Mathlib.Omega.{arith}
 use borrow.Author.Tests.{lt-ltb, le-ltb}
 use lib.Dec.{ltb}
-use lib.Ieee.{Float, nan, lt}
-use lib.ListN.{length, get_or, take, drop, length-map}
+use lib.Ieee.{Float}
+use lib.ListN.{length, take, drop, length-map}
 use lib.Seq.{drop-drop}
 use Rattle.numbers.specs.declared.math.Vec3.{Vec3}
 use Rattle.lists.specs.Placed.{placed}
@@ -15,14 +15,16 @@ use Rattle.lists.proofs.Placed.{length-placed, read_placed, before_placed, place
 use Rattle.tables.specs.Corners.{Corner, Corners, us}
 use Rattle.tables.specs.Moves.{moved_by}
 use Rattle.tables.specs.Rows.{rows}
+use Rattle.tables.specs.declared.corners.Corner.{Corner as Held}
 use Rattle.tables.specs.declared.moves.Move.TheVariants.{Up}
-use Rattle.tables.proofs.Taking.{count-u}
+use Rattle.tables.proofs.Rows.{length-rows}
 use Rattle.rings.specs.Choices.{first_of, first_from, begins_backward, serve}
 use Rattle.rings.specs.Starts as Starts
-use Rattle.rings.specs.Starts.{bare, first_for, later_for, serves, first_serving}
+use Rattle.rings.specs.Starts.{first_for, later_for, later_by, serves, first_serving}
 use Rattle.rings.specs.Turns.{begin_ring_at}
-use Rattle.rings.proofs.ByU.{first_by_u, later_by_u, length-first_for, length-later_for}
-use Rattle.rings.proofs.Decisions.{Seeking, seeking, seeking_turn, seeking_found, seeking_end, serve_backward, few_forward, second-first}
+use Rattle.rings.proofs.ReadRows.{us_of_reals}
+use Rattle.rings.proofs.ByU.{first_by_u, us_later, length-first_for, length-later_for}
+use Rattle.rings.proofs.Decisions.{Seeking, seeking, seeking_turn, seeking_found, seeking_end, serve_backward}
 use Rattle.starts.specs.Search as Answer
 use Rattle.starts.specs.Search.{not_searched, search_within}
 
@@ -31,15 +33,15 @@ length-us r = length-map r (λ (c : Corner Vec3). c.u)
 
 -- ---- the u of a table's rows, copied to a place of their length
 
-module _ (t d d₁ d₂ : List Float) (fits : length d ≡ length (rows t)) (copied : d₁ ≡ placed 0 (us (rows t)) d) where
+module _ (t : List Held) (d d₁ d₂ : List Float) (fits : length d ≡ length (rows t)) (copied : d₁ ≡ placed 0 (us (rows t)) d) where
   copy_is : d₁ ≡ us (rows t)
   copy_is = copied ∙ placed_whole (us (rows t)) d (length-us (rows t) ∙ sym fits)
 
   pub first_in : (period : Float) (k : ℕ) → d₂ ≡ begin_ring_at (moved_by (Up period)) k d₁ → d₂ ≡ us (first_for period k (rows t))
   first_in period k e = e ∙ ap (begin_ring_at (moved_by (Up period)) k) copy_is ∙ first_by_u period k (rows t)
 
-  pub later_in : (period cut : Float) → d₂ ≡ us (later_for period cut (bare d₁)) → d₂ ≡ us (later_for period cut (rows t))
-  later_in period cut e = e ∙ ap (λ (l : List Float). us (later_for period cut (bare l))) copy_is ∙ later_by_u period cut (rows t)
+  pub later_in : (period cut : Float) → d₂ ≡ later_by (λ u. u) moved_by period cut d₁ → d₂ ≡ us (later_for period cut (rows t))
+  later_in period cut e = e ∙ ap (later_by (λ u. u) moved_by period cut) copy_is ∙ sym (us_later period cut (rows t))
 
 module _ (period : Float) (r : Corners Vec3) where
   pub length-first : (k : ℕ) → length (us (first_for period k r)) ≡ length r
@@ -55,14 +57,10 @@ part_written at e w w' d w_is end_is room =
     (λ i. take at d ++ (w_is i ++ (drop-drop (e - at) at d ∙ ap (λ (j : ℕ). drop j d) m) i))
     ∙ sym (append_assoc (take at d) w (drop (at + length w) d)) ∙ sym (placed-fits at w d (omega arith))
 
--- ---- the first ring as it is given
+-- ---- how many starts a ring has
 
-module _ (first : List Float) (n : ℕ) (n_is : n ≡ length (rows first)) where
-  pub given-few : n ≤ 3 → false ≡ begins_backward (us (rows first))
-  given-few h = few_forward (us (rows first)) (omega (arith, count-u first n n_is))
-
-  pub given_more : (a b : Float) → a ≡ get_or (us (rows first)) 1 nan → b ≡ get_or (us (rows first)) 0 nan → 3 < n → lt a b ≡ begins_backward (us (rows first))
-  given_more a b p q h = rw (p, q) (second-first (us (rows first)) (omega (arith, count-u first n n_is)))
+pub starts_of : (first : List Held) (all : ℕ) → all ≡ length first - 1 → all ≡ length (rows first) - 1
+starts_of first all e = e ∙ ap (λ (n : ℕ). n - 1) (sym (length-rows first))
 
 -- ---- one trial
 
@@ -77,11 +75,11 @@ module _ (period : Float) (first later : Corners Vec3) (k n : ℕ) (n_is : n ≡
     begun_read : take (n - 0) (drop 0 d₁) ≡ begun
     begun_read = let l = long in ap (λ (l : List Float). take (n - 0) (drop 0 l)) put ∙ read_placed 0 n begun d (omega arith) (omega arith)
 
-    pub trial_backward : (t : Bool) → t ≡ begins_backward (take (n - 0) (drop 0 d₁)) → t ≡ true → false ≡ serves period first later k
+    pub trial_backward : (t : Bool) → t ≡ begins_backward (map (λ u. u) (take (n - 0) (drop 0 d₁))) → t ≡ true → false ≡ serves period first later k
     unfolding serves
-    trial_backward t e h = serve_backward period begun (us (later_for period (first_of begun) later)) t (e ∙ ap begins_backward begun_read) h
+    trial_backward t e h = serve_backward period begun (us (later_for period (first_of begun) later)) t (e ∙ ap begins_backward (us_of_reals (take (n - 0) (drop 0 d₁)) ∙ begun_read)) h
 
-    module _ (m : ℕ) (m_is : m ≡ length later) (cut : Float) (d₂ : List Float) (cut_is : cut ≡ first_of (take (n - 0) (drop 0 d₁)))
+    module _ (m : ℕ) (m_is : m ≡ length later) (cut : Float) (d₂ : List Float) (cut_is : cut ≡ first_of (map (λ u. u) (take (n - 0) (drop 0 d₁))))
         (put₂ : d₂ ≡ placed n (us (later_for period cut later)) d₁) where
       there : n + length (us (later_for period cut later)) ≡ n + m
       there = ap (λ (j : ℕ). n + j) (length-later period later cut ∙ sym m_is)
@@ -98,7 +96,7 @@ module _ (period : Float) (first later : Corners Vec3) (k n : ℕ) (n_is : n ≡
       later_read =
           ap (λ (l : List Float). take (n + m - n) (drop n l)) put₂
           ∙ read_placed n (n + m) (us (later_for period cut later)) d₁ there room₁
-          ∙ ap (λ (c : Float). us (later_for period c later)) (cut_is ∙ ap first_of begun_read)
+          ∙ ap (λ (c : Float). us (later_for period c later)) (cut_is ∙ ap first_of (us_of_reals (take (n - 0) (drop 0 d₁)) ∙ begun_read))
 
       pub trial_both : (t : Bool) → t ≡ serve period (take (n - 0) (drop 0 d₂)) (take (n + m - n) (drop n d₂)) → t ≡ serves period first later k
       unfolding serves

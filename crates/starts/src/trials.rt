@@ -4,7 +4,6 @@ ghost use Rattle.std.specs.Prelude.{◌≡◌, ◌+◌, ◌-◌, ◌≤◌, leng
 ghost use Rattle.lists.specs.Placed.{placed};
 ghost use Rattle.tables.specs.Corners.{us};
 ghost use Rattle.tables.specs.Rows.{rows};
-ghost use Rattle.rings.specs.Choices.{begins_backward};
 ghost use Rattle.rings.specs.Starts.{first_for, later_for, serves, first_serving};
 ghost use Rattle.starts.specs.Search.{search_within};
 
@@ -12,7 +11,7 @@ use crate::later_for;
 use rings::choices::{begins_backward, first_of, serve};
 use rings::moves::begin_ring_at;
 use tables::copies::us_into;
-use tables::corners::{count, u_at};
+use tables::corners::{Corner, count};
 use tables::moves::Move;
 
 // The chosen start, how many were tried, and whether one served. Where none did, the start is the
@@ -25,7 +24,7 @@ pub struct Search {
 }
 
 // The first ring's u, begun at its point k, in a place of their length.
-fn first_into(u: &mut [f64], first: &[f64], k: usize, period: f64)
+fn first_into(u: &mut [f64], first: &[Corner], k: usize, period: f64)
     requires { length u.old ≡ length (rows first.now) }
     ensures { u.new ≡ us (first_for period k (rows first.now)) }
 {
@@ -34,7 +33,7 @@ fn first_into(u: &mut [f64], first: &[f64], k: usize, period: f64)
 }
 
 // A later ring's u, put to the cut, in a place of their length.
-fn later_into(u: &mut [f64], later: &[f64], cut: f64, period: f64)
+fn later_into(u: &mut [f64], later: &[Corner], cut: f64, period: f64)
     requires { length u.old ≡ length (rows later.now) }
     ensures { u.new ≡ us (later_for period cut (rows later.now)) }
 {
@@ -42,7 +41,7 @@ fn later_into(u: &mut [f64], later: &[f64], cut: f64, period: f64)
     later_for(u, cut, period);
 }
 
-fn try_first(trial: &mut [f64], first: &[f64], k: usize, period: f64)
+fn try_first(trial: &mut [f64], first: &[Corner], k: usize, period: f64)
     requires { length (rows first.now) ≤ length trial.old }
     ensures { trial.new ≡ placed 0 (us (first_for period k (rows first.now))) trial.old }
 {
@@ -50,7 +49,7 @@ fn try_first(trial: &mut [f64], first: &[f64], k: usize, period: f64)
     first_into(&mut trial[0..end], first, k, period);
 }
 
-fn try_later(trial: &mut [f64], from: usize, later: &[f64], cut: f64, period: f64)
+fn try_later(trial: &mut [f64], from: usize, later: &[Corner], cut: f64, period: f64)
     requires { from + length (rows later.now) ≤ length trial.old }
     ensures { trial.new ≡ placed from (us (later_for period cut (rows later.now))) trial.old }
 {
@@ -60,7 +59,7 @@ fn try_later(trial: &mut [f64], from: usize, later: &[f64], cut: f64, period: f6
 
 // Whether the start k serves. `trial` is scratch: it holds the u of this trial, or a part of them,
 // afterwards.
-fn serves(trial: &mut [f64], first: &[f64], later: &[f64], k: usize, period: f64) -> bool
+fn serves(trial: &mut [f64], first: &[Corner], later: &[Corner], k: usize, period: f64) -> bool
     requires { length (rows first.now) + length (rows later.now) ≤ length trial.old }
     ensures { result ≡ serves period (rows first.now) (rows later.now) k }
 {
@@ -76,46 +75,24 @@ fn serves(trial: &mut [f64], first: &[f64], later: &[f64], k: usize, period: f64
     serve(&both[0..n], &both[n..end], period)
 }
 
-// How many starts the first ring has: its last point repeats its first.
-fn starts(first: &[f64]) -> usize
-    ensures { result ≡ length (rows first.now) - 1 }
-{
-    let n = count(first);
-    if n == 0 {
-        return 0;
-    }
-    n - 1
-}
-
 // The first start that serves, and how many there are where none does.
-fn first_serving(trial: &mut [f64], first: &[f64], later: &[f64], period: f64) -> usize
+fn first_serving(trial: &mut [f64], first: &[Corner], later: &[Corner], period: f64) -> usize
     requires { length (rows first.now) + length (rows later.now) ≤ length trial.old }
     ensures { result ≡ first_serving period (rows first.now) (rows later.now) }
 {
-    let all = starts(first);
-    let mut k = 0;
-    while k < all {
+    // Its last point repeats its first.
+    let all = first.len().saturating_sub(1);
+    for k in 0..all {
         if serves(trial, first, later, k, period) {
             return k;
         }
-        k += 1;
     }
     all
 }
 
-// Whether the first ring, as given, begins backward.
-fn as_given_backward(first: &[f64]) -> bool
-    ensures { result ≡ begins_backward (us (rows first.now)) }
-{
-    if count(first) <= 3 {
-        return false;
-    }
-    u_at(first, 1) < u_at(first, 0)
-}
-
 // Starts are tried from 0 on copies of the u in `trial`, which is scratch. Where it is too short for
 // both rings, none is tried.
-pub fn search_tables(trial: &mut [f64], first: &[f64], later: &[f64], period: f64) -> Search
+pub fn search_tables(trial: &mut [f64], first: &[Corner], later: &[Corner], period: f64) -> Search
     ensures { result ≡ search_within period (length trial.old) (rows first.now) (rows later.now) }
 {
     if trial.len() < count(first) + count(later) {
@@ -126,7 +103,7 @@ pub fn search_tables(trial: &mut [f64], first: &[f64], later: &[f64], period: f6
         };
     }
     let start = first_serving(trial, first, later, period);
-    let all = starts(first);
+    let all = first.len().saturating_sub(1);
     if start < all {
         return Search {
             start: start,
@@ -134,7 +111,7 @@ pub fn search_tables(trial: &mut [f64], first: &[f64], later: &[f64], period: f6
             served: true,
         };
     }
-    if as_given_backward(first) {
+    if begins_backward(first) {
         return Search {
             start: 1,
             tried: all,

@@ -12,3 +12,6 @@ loop-k-preserved c = laws.trying_turn _ _ _ _ _ _ _ c.loop-k.invariant _ _ (sear
 
 pub returns : goal.returns
 returns c = laws.trying_end _ _ _ _ _ _ _ c.loop-k.invariant c.loop-k-test.false
+
+pub loop-k-init : goal.loop-k-init
+loop-k-init c = laws.trying _ _ _ _ _ c.requires (laws.starts_of _ _ c.saturating_sub-all.ensures)
