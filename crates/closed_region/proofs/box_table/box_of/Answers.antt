@@ -1,8 +1,5 @@
-use Rattle.closed_region.proofs.BoxTable.{growing, growing_turn, growing_end}
+use Rattle.closed_region.proofs.BoxTable.{growing_turn, growing_end}
 use Rattle.closed_region.proofs.box_table.box_of.Goals as goal
-
-pub loop-c-init : goal.loop-c-init
-loop-c-init c = growing _ _ c.empty_box-b.ensures
 
 pub loop-c-preserved : goal.loop-c-preserved
 loop-c-preserved c = growing_turn _ _ _ _ c.loop-c.invariant c.loop-c-test.true c.hull-b.ensures
