@@ -27,6 +27,8 @@ use Rattle.loops.proofs.Landing.{half_answer}
 use Rattle.tables.specs.Corners.{Corners, us, vs, move_u, move_v}
 use Rattle.tables.specs.Moves.{moved_by}
 use Rattle.tables.specs.Rows.{rows}
+use Rattle.tables.specs.declared.corners.Corner.{Corner as Held}
+use Rattle.tables.proofs.Rows.{length-rows}
 use Rattle.tables.specs.declared.moves.Move.TheVariants.{Up}
 use Rattle.closed_region.specs.Loops.{area_in, box_in}
 use Rattle.closed_region.specs.Holes.{whole_periods, branch_in, shifted, u_shift, v_shift, in_phase, rephased_corners, rephased_area, loop_then, area_then, loops_then, areas_then, is_face, outer_branch, rephased_rows, rephased_areas}
@@ -173,7 +175,7 @@ module _ (outer : ℕ) (b : Branch) where
 
 -- ---- all loops, one after the other
 
-module _ (outer : ℕ) (b : Branch) (counts : List ℕ) (t₀ areas₀ : List Float) where
+module _ (outer : ℕ) (b : Branch) (counts : List ℕ) (t₀ : List Held) (areas₀ : List Float) where
   abbrev ls : List (Corners Vec3)
   ls = pieces counts (rows t₀)
 
@@ -186,9 +188,7 @@ module _ (outer : ℕ) (b : Branch) (counts : List ℕ) (t₀ areas₀ : List Fl
   abbrev done : ℕ → Corners Vec3
   done k = flatten (take k wanted)
 
-  pub record Rephasing (t areas : List Float) (n from k : ℕ) : Type 0 where
-    pub count : n ≡ length (rows t₀)
-    pub long : length t ≡ length t₀
+  pub record Rephasing (t : List Held) (areas : List Float) (from k : ℕ) : Type 0 where
     pub some : length counts ≤ length areas₀
     pub inside : outer < length counts
     pub cut : Cutting counts (rows t₀) from k
@@ -196,11 +196,9 @@ module _ (outer : ℕ) (b : Branch) (counts : List ℕ) (t₀ areas₀ : List Fl
     pub at : length (done k) ≡ from
     pub fill : Filling 0 areas_wanted areas₀ areas k
 
-  pub rephasing : (n : ℕ) → n ≡ length (rows t₀) → outer < length counts → length counts ≤ length areas₀ → Rephasing t₀ areas₀ n 0 0
+  pub rephasing : outer < length counts → length counts ≤ length areas₀ → Rephasing t₀ areas₀ 0 0
   unfolding flatten
-  rephasing n e o h = record {
-    count = e;
-    long = refl;
+  rephasing o h = record {
     some = h;
     inside = o;
     cut = cutting counts (rows t₀);
@@ -209,23 +207,22 @@ module _ (outer : ℕ) (b : Branch) (counts : List ℕ) (t₀ areas₀ : List Fl
     fill = front areas_wanted areas₀ (let l = length-pieces counts (rows t₀) in let w = length-areas outer b 0 ls areas₀ (omega arith) in omega arith);
   }
 
-  module _ (t areas : List Float) (n from k : ℕ) (p : Rephasing t areas n from k) where
-    pub still : (to : ℕ) → to ≡ min (from + get_or counts k 0) n → (from ≤ to) × (to ≤ length (rows t))
-    still to e =
+  module _ (t : List Held) (areas : List Float) (from k : ℕ) (p : Rephasing t areas from k) where
+    as_long : length (rows t) ≡ length (rows t₀)
+    as_long =
         let a = p.at in
-        let c = p.count in
         let low = p.cut.low in
-        let l : length (rows t) ≡ length (done k) + length (drop from (rows t₀)) = ap length p.is ∙ length-append (done k) (drop from (rows t₀)) in
         let d = length-drop from (rows t₀) in
-        (omega arith, omega arith)
+        ap length p.is ∙ length-append (done k) (drop from (rows t₀)) ∙ omega arith
 
-    pub rephasing_turn : (t' areas' : List Float) (to : ℕ) → k < length counts → to ≡ min (from + get_or counts k 0) n → length t' ≡ length t
+    pub still : (to : ℕ) → to ≡ min (from + get_or counts k 0) (length t) → (from ≤ to) × (to ≤ length (rows t))
+    still to e = let low = p.cut.low in let l = as_long in let n = length-rows t in (omega arith, omega arith)
+
+    pub rephasing_turn : (t' : List Held) (areas' : List Float) (to : ℕ) → k < length counts → to ≡ min (from + get_or counts k 0) (length t)
         → rows t' ≡ on_part (loop_then outer b k) from to (rows t)
         → areas' ≡ set areas k (area_then outer b k (take (to - from) (drop from (rows t))) (get_or areas k nan))
-        → Rephasing t' areas' n to (k + 1)
-    rephasing_turn t' areas' to h e l s a = record {
-      count = p.count;
-      long = l ∙ p.long;
+        → Rephasing t' areas' to (k + 1)
+    rephasing_turn t' areas' to h e s a = record {
       some = p.some;
       inside = p.inside;
       cut = cutting_turn counts (rows t₀) from to k p.cut h to_is;
@@ -235,7 +232,7 @@ module _ (outer : ℕ) (b : Branch) (counts : List ℕ) (t₀ areas₀ : List Fl
     }
       where
         to_is : to ≡ min (from + get_or counts k 0) (length (rows t₀))
-        to_is = e ∙ ap (min (from + get_or counts k 0)) p.count
+        to_is = e ∙ ap (min (from + get_or counts k 0)) (sym (length-rows t) ∙ as_long)
 
         here : Corners Vec3
         here = take (to - from) (drop from (rows t₀))
@@ -300,11 +297,11 @@ module _ (outer : ℕ) (b : Branch) (counts : List ℕ) (t₀ areas₀ : List Fl
 
 -- ---- the three answers
 
-module _ (outer : ℕ) (pu pv : Float) (counts : List ℕ) (t₀ areas₀ : List Float) where
+module _ (outer : ℕ) (pu pv : Float) (counts : List ℕ) (t₀ : List Held) (areas₀ : List Float) where
   abbrev all_loops : List (Corners Vec3)
   all_loops = pieces counts (rows t₀)
 
-  abbrev Left : List Float → List Float → Type 0
+  abbrev Left : List Held → List Float → Type 0
   Left t areas = (rows t ≡ rephased_rows outer pu pv all_loops areas₀ (rows t₀)) × (areas ≡ rephased_areas outer pu pv all_loops areas₀)
 
   no_face : is_face outer pu pv all_loops areas₀ ≡ false → Left t₀ areas₀
@@ -324,16 +321,16 @@ module _ (outer : ℕ) (pu pv : Float) (counts : List ℕ) (t₀ areas₀ : List
       by_first true = refl
       by_first false = refl
 
-  pub holes_left : (b : Branch) (o : Corners Vec3) (t areas : List Float) (n from k : ℕ) → o ≡ get_or all_loops outer [] → b ≡ branch_in pu pv o
-      → Rephasing outer b counts t₀ areas₀ t areas n from k → length counts ≤ k → Left t areas
+  pub holes_left : (b : Branch) (o : Corners Vec3) (t : List Held) (areas : List Float) (from k : ℕ) → o ≡ get_or all_loops outer [] → b ≡ branch_in pu pv o
+      → Rephasing outer b counts t₀ areas₀ t areas from k → length counts ≤ k → Left t areas
   unfolding rephased_rows rephased_areas
-  holes_left b o t areas n from k o_is b_is p h =
+  holes_left b o t areas from k o_is b_is p h =
       let m = length-pieces counts (rows t₀) in
       let i = p.inside in
       let s = p.some in
       let inside : outer < length all_loops = omega arith in
       let some : length all_loops ≤ length areas₀ = omega arith in
-      let e = rephasing_end outer b counts t₀ areas₀ t areas n from k p h in
+      let e = rephasing_end outer b counts t₀ areas₀ t areas from k p h in
       let branch : b ≡ outer_branch outer pu pv all_loops areas₀ = b_is ∙ ap (branch_in pu pv) o_is in
       rw (lt-ltb outer (length all_loops) inside, le-leb (length all_loops) (length areas₀) some) (
         e.0 ∙ ap (λ (x : Branch). placed 0 (flatten (loops_then outer x 0 all_loops)) (rows t₀)) branch,

@@ -1,12 +1,20 @@
 -- 02, N6: "it is to take the four outermost box ends in one pass and hold each box against those". These are the steps of that search; of
 -- `by_outermost`, at the end, no more is claimed than that for ends of 64 bits it is `enclosing_one`, every box held against every other
 -- (`by_outermost_lem` in proofs/outer/ByOutermost.antt).
-use Rattle.std.specs.Prelude.{ℕ, zero, suc, ◌+◌, Bool, true, false, cond, ◌&&◌, List, eqb, length, Float}
-use Rattle.std.specs.Float.{inf}
+use Rattle.std.specs.Prelude.{ℕ, zero, suc, ◌+◌, Bool, true, false, cond, ◌&&◌, List, eqb, length, Float, Option, Some, T}
+use Rattle.std.specs.Float.{inf, binary64}
+use Rattle.std.specs.Float.Ieee.{fits}
 use Rattle.numbers.specs.Order.{min_of, max_of}
 use Rattle.closed_region.specs.declared.boxes.Bounds.{Bounds}
 use Rattle.closed_region.specs.declared.outer.Outermost.{Outermost}
 use Rattle.closed_region.specs.Outer.{slack_of, encloses, box_at, passing, the_one}
+
+-- its ends are values of 64 bits
+pub record Fits (b : Bounds) : Type 0 where
+  pub ulo : T (fits binary64 b.ulo)
+  pub uhi : T (fits binary64 b.uhi)
+  pub vlo : T (fits binary64 b.vlo)
+  pub vhi : T (fits binary64 b.vhi)
 
 -- the outermost ends of no boxes: within a slack that is not below 0, whatever encloses some box encloses them
 abbrev pub empty_box : Bounds
@@ -47,12 +55,12 @@ encloses_outermost slack outermost b = encloses slack b outermost.ends && eqb ou
 unfoldable pub encloses_outermost_at : Float → Outermost → List Bounds → ℕ → Bool
 encloses_outermost_at slack outermost boxes i = encloses_outermost slack outermost (box_at boxes i)
 
--- the one box that does, and else none
-abbrev pub the_one_against : Float → Outermost → List Bounds → ℕ → ℕ
-the_one_against slack outermost boxes none = the_one (passing (encloses_outermost_at slack outermost boxes) (length boxes)) none
+-- the one box that does, if there is one
+abbrev pub the_one_against : Float → Outermost → List Bounds → Option ℕ
+the_one_against slack outermost boxes = the_one (passing (encloses_outermost_at slack outermost boxes) (length boxes))
 
 -- the search: a box alone has no other to enclose, and is found untested
-unfoldable pub by_outermost : List Bounds → ℕ → ℕ
-by_outermost boxes none =
+unfoldable pub by_outermost : List Bounds → Option ℕ
+by_outermost boxes =
     let slack = slack_of boxes in
-    cond (eqb (length boxes) 1) 0 (the_one_against slack (outermost_of slack boxes) boxes none)
+    cond (eqb (length boxes) 1) (Some 0) (the_one_against slack (outermost_of slack boxes) boxes)

@@ -1,5 +1,5 @@
--- What is measured of one loop of corners, and a table of boxes.
-use Rattle.std.specs.Prelude.{List, [], ◌∷◌, Float}
+-- What is measured of one loop of corners.
+use Rattle.std.specs.Prelude.{Float}
 use Rattle.numbers.specs.declared.math.Vec3.{Vec3}
 use Rattle.loops.specs.Area.{area_of}
 use Rattle.tables.specs.Corners.{Corners, us, vs}
@@ -13,11 +13,3 @@ area_in r = area_of (us r) (vs r)
 -- the box of a loop in u and v
 abbrev pub box_in : Corners Vec3 → Bounds
 box_in r = box_of (us r) (vs r)
-
--- boxes one behind the other in one list of reals, four to a box. What stands behind the last whole box is no box.
-unfoldable pub boxes_in : List Float → List Bounds
-boxes_in (ul ∷ uh ∷ vl ∷ vh ∷ b) = record { ulo = ul; uhi = uh; vlo = vl; vhi = vh } ∷ boxes_in b
-boxes_in [] = []
-boxes_in (ul ∷ []) = []
-boxes_in (ul ∷ uh ∷ []) = []
-boxes_in (ul ∷ uh ∷ vl ∷ []) = []

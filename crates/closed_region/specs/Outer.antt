@@ -1,6 +1,6 @@
 -- 01, "Closed faces": "Outer loop: the one box that encloses all others within 10^-9 of the largest box side; with no such box or several, the largest
 -- absolute area, last of equals".
-use Rattle.std.specs.Prelude.{ℕ, zero, suc, ◌+◌, Bool, true, cond, ◌&&◌, ◌||◌, eqb, length, get_or, take, drop, Float}
+use Rattle.std.specs.Prelude.{ℕ, zero, suc, ◌+◌, Bool, true, cond, ◌&&◌, ◌||◌, eqb, length, get_or, take, drop, Float, Option, None, Some, unwrap_or}
 use mathlib.Core.List.{List, [], ◌∷◌, ◌++◌, foldl}
 use Rattle.std.specs.Float.{nan}
 use Rattle.std.specs.Float.Ieee.{lt, le}
@@ -46,15 +46,15 @@ encloses_other slack boxes i j = eqb i j || encloses slack (box_at boxes i) (box
 unfoldable pub encloses_others : Float → List Bounds → ℕ → Bool
 encloses_others slack boxes i = every (encloses_other slack boxes i) (length boxes)
 
--- the one of a list that has one, and else none
-abbrev pub the_one : List ℕ → ℕ → ℕ
-the_one [] none = none
-the_one (i ∷ []) none = i
-the_one (i ∷ j ∷ is) none = none
+-- the one of a list that has one
+abbrev pub the_one : List ℕ → Option ℕ
+the_one [] = None
+the_one (i ∷ []) = Some i
+the_one (i ∷ j ∷ is) = None
 
--- "the one box that encloses all others", and else none
-unfoldable pub enclosing_one : Float → List Bounds → ℕ → ℕ
-enclosing_one slack boxes none = the_one (passing (encloses_others slack boxes) (length boxes)) none
+-- "the one box that encloses all others", if there is one
+unfoldable pub enclosing_one : Float → List Bounds → Option ℕ
+enclosing_one slack boxes = the_one (passing (encloses_others slack boxes) (length boxes))
 
 -- "the largest absolute area, last of equals", of the first n; 0 where there is none
 unfoldable pub last_largest : List Float → ℕ → ℕ
@@ -63,7 +63,7 @@ last_largest areas (suc n) = let best = last_largest areas n in cond (lt (abs_of
 
 -- the number of the outer loop, from the loops' boxes and areas
 unfoldable pub outer_of : List Bounds → List Float → ℕ
-outer_of boxes areas = enclosing_one (slack_of boxes) boxes (last_largest areas (length areas))
+outer_of boxes areas = unwrap_or (enclosing_one (slack_of boxes) boxes) (last_largest areas (length areas))
 
 -- "Holes keep their order": the loops less the outer one
 unfoldable pub holes_of : {A : Type 0} → ℕ → List A → List A

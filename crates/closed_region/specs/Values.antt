@@ -1,5 +1,5 @@
 -- 01, "Values to hold", and the cases that tell the sentences of 01 and 02 apart, computed.
-use Rattle.std.specs.Prelude.{ℕ, ◌≡◌, refl, false, length, List, [], ◌∷◌, Float}
+use Rattle.std.specs.Prelude.{ℕ, ◌≡◌, refl, false, length, List, [], ◌∷◌, Float, None, Some}
 use Rattle.std.specs.Float.{nan, inf}
 use Rattle.std.specs.Float.Ieee.{add, sub, mul, div, neg, lt, le, eq, of_bits, of_int}
 use Rattle.numbers.specs.Constants.{10^-9}
@@ -74,24 +74,24 @@ undefined_among : enclosers (unit ∷ undefined ∷ []) ≡ []
 unfolding slack_of encloses every passing encloses_other encloses_others add sub mul neg lt le of_bits of_int
 undefined_among = refl
 
--- what the search by the outermost ends finds of these lists, and of two boxes of which one or both enclose the other; 7 where it finds none
-found_wide : by_outermost (unit ∷ wide ∷ []) 7 ≡ 1
+-- what the search by the outermost ends finds of these lists, and of two boxes of which one or both enclose the other
+found_wide : by_outermost (unit ∷ wide ∷ []) ≡ Some 1
 unfolding by_outermost encloses_outermost_at encloses_outermost outermost_of ends_among unenclosable_among one_if_unenclosable passing slack_of encloses add sub mul neg lt le of_bits of_int
 found_wide = refl
 
-found_no_several : by_outermost (unit ∷ unit ∷ []) 7 ≡ 7
+found_no_several : by_outermost (unit ∷ unit ∷ []) ≡ None
 unfolding by_outermost encloses_outermost_at encloses_outermost outermost_of ends_among unenclosable_among one_if_unenclosable passing slack_of encloses add sub mul neg lt le of_bits of_int
 found_no_several = refl
 
-found_unending : by_outermost (unit ∷ unending ∷ unit ∷ []) 7 ≡ 1
+found_unending : by_outermost (unit ∷ unending ∷ unit ∷ []) ≡ Some 1
 unfolding by_outermost encloses_outermost_at encloses_outermost outermost_of ends_among unenclosable_among one_if_unenclosable passing slack_of encloses add sub mul neg lt le of_bits of_int
 found_unending = refl
 
-found_no_unending : by_outermost (unending ∷ unending ∷ []) 7 ≡ 7
+found_no_unending : by_outermost (unending ∷ unending ∷ []) ≡ None
 unfolding by_outermost encloses_outermost_at encloses_outermost outermost_of ends_among unenclosable_among one_if_unenclosable passing slack_of encloses add sub mul neg lt le of_bits of_int
 found_no_unending = refl
 
-found_no_undefined : by_outermost (unit ∷ undefined ∷ []) 7 ≡ 7
+found_no_undefined : by_outermost (unit ∷ undefined ∷ []) ≡ None
 unfolding by_outermost encloses_outermost_at encloses_outermost outermost_of ends_among unenclosable_among one_if_unenclosable passing slack_of encloses add sub mul neg lt le of_bits of_int
 found_no_undefined = refl
 
@@ -99,7 +99,7 @@ found_no_undefined = refl
 abbrev alone : List Bounds
 alone = undefined ∷ []
 
-found_alone : by_outermost alone 7 ≡ 0
+found_alone : by_outermost alone ≡ Some 0
 unfolding by_outermost encloses_outermost_at encloses_outermost outermost_of ends_among unenclosable_among one_if_unenclosable passing slack_of encloses add sub mul neg lt le of_bits of_int
 found_alone = refl
 
@@ -107,7 +107,7 @@ tested_alone : encloses_outermost_at (slack_of alone) (outermost_of (slack_of al
 unfolding encloses_outermost_at encloses_outermost outermost_of ends_among unenclosable_among one_if_unenclosable slack_of encloses add sub mul neg lt le of_bits of_int
 tested_alone = refl
 
-found_nothing : by_outermost [] 7 ≡ 7
+found_nothing : by_outermost [] ≡ None
 unfolding by_outermost encloses_outermost_at encloses_outermost outermost_of ends_among unenclosable_among one_if_unenclosable passing slack_of encloses add sub mul neg lt le of_bits of_int
 found_nothing = refl
 

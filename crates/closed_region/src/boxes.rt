@@ -1,4 +1,6 @@
-// A box in u and v, by its four ends.
+// A box in u and v, by its four ends. The layout is C's, so that the comparison with the Rust can lend
+// tables of boxes.
+#[repr(C)]
 #[derive(Clone, Copy)]
 pub struct Bounds {
     pub ulo: f64,

@@ -15,7 +15,7 @@ use super::rephase::{Branch, stays};
 use loops::rows::signed_area;
 use numbers::rounding::round;
 use surfaces::surface::Period;
-use tables::corners::count;
+use tables::corners::Corner;
 use tables::moves::{Move, move_u, move_v};
 use tables::pieces::loop_of;
 use tables::slices::{at, piece_end, put};
@@ -32,7 +32,7 @@ pub fn hole_shift(period: f64, from: f64, to: f64) -> f64
 }
 
 // Where the holes of an outer loop go.
-fn branch_of(t: &[f64], u: Period, v: Period) -> Branch
+fn branch_of(t: &[Corner], u: Period, v: Period) -> Branch
     ensures { result ≡ branch_in (period_length u) (period_length v) (rows t.now) }
 {
     let b = box_of(t);
@@ -45,7 +45,7 @@ fn branch_of(t: &[f64], u: Period, v: Period) -> Branch
 }
 
 // Moves a hole, and answers its area.
-fn move_hole(t: &mut [f64], su: f64, sv: f64) -> f64
+fn move_hole(t: &mut [Corner], su: f64, sv: f64) -> f64
     ensures value { result ≡ area_in (shifted su sv (rows t.old)) }
     ensures t_after { rows t.new ≡ shifted su sv (rows t.old) }
 {
@@ -56,7 +56,7 @@ fn move_hole(t: &mut [f64], su: f64, sv: f64) -> f64
 
 // A hole whose area was `area`: answers the area that it now has. Positions stay: a parameter moved by
 // whole periods names the same point.
-pub fn rephase_hole(t: &mut [f64], area: f64, b: Branch) -> f64
+pub fn rephase_hole(t: &mut [Corner], area: f64, b: Branch) -> f64
     ensures value { result ≡ rephased_area b (rows t.old) area }
     ensures t_after { rows t.new ≡ rephased_corners b (rows t.old) }
 {
@@ -69,19 +69,9 @@ pub fn rephase_hole(t: &mut [f64], area: f64, b: Branch) -> f64
     move_hole(t, su, sv)
 }
 
-fn rephase_part(t: &mut [f64], from: usize, to: usize, area: f64, b: Branch) -> f64
-    requires { (from ≤ to) × (to ≤ length (rows t.old)) }
-    ensures value { result ≡ rephased_area b (take (to - from) (drop from (rows t.old))) area }
-    ensures t_after { rows t.new ≡ on_part (rephased_corners b) from to (rows t.old) }
-{
-    let a = 5 * from;
-    let e = 5 * to;
-    rephase_hole(&mut t[a..e], area, b)
-}
-
 // Loop k, which stands in the rows from one up to another: moved, unless it is the outer one.
 fn rephase_loop(
-    t: &mut [f64],
+    t: &mut [Corner],
     from: usize,
     to: usize,
     areas: &mut [f64],
@@ -96,14 +86,14 @@ fn rephase_loop(
     if k == outer {
         return;
     }
-    let area = rephase_part(t, from, to, at(areas, k), b);
+    let area = rephase_hole(&mut t[from..to], at(areas, k), b);
     put(areas, k, area);
 }
 
 // Every loop but the outer one, with its area. Nothing is moved where that loop is none of theirs, or
 // where the loops have no area each.
 pub fn rephase_holes(
-    t: &mut [f64],
+    t: &mut [Corner],
     counts: &[usize],
     areas: &mut [f64],
     outer: usize,
@@ -120,13 +110,10 @@ pub fn rephase_holes(
         return;
     }
     let b = branch_of(loop_of(t, counts, outer), u, v);
-    let n = count(t);
     let mut from = 0;
-    let mut k = 0;
-    while k < counts.len() {
-        let to = piece_end(n, from, counts[k]);
+    for (k, &n) in counts.iter().enumerate() {
+        let to = piece_end(t.len(), from, n);
         rephase_loop(t, from, to, areas, k, outer, b);
         from = to;
-        k += 1;
     }
 }

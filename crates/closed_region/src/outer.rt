@@ -1,7 +1,7 @@
 // What the search for the outer loop asks of a box, of two boxes, and of the areas.
 ghost use Rattle.std.specs.Prelude.{◌≡◌, length};
 ghost use Rattle.closed_region.specs.Outer.{side_of, encloses, last_largest};
-ghost use Rattle.closed_region.specs.ByOutermost.{empty_box, hull_of, one_if_unenclosable, encloses_outermost};
+ghost use Rattle.closed_region.specs.ByOutermost.{Fits, empty_box, hull_of, one_if_unenclosable, encloses_outermost};
 
 use super::boxes::Bounds;
 use numbers::order::{abs, max, min};
@@ -16,8 +16,10 @@ pub struct Outermost {
     pub unenclosable: usize,
 }
 
+// That a box which is passed has ends of 64 bits is what the search by the outermost ends rests on.
 pub fn longer_side(b: Bounds) -> f64
-    ensures { result ≡ side_of b }
+    ensures value { result ≡ side_of b }
+    ensures fit { Fits b }
 {
     max(b.uhi - b.ulo, b.vhi - b.vlo)
 }
@@ -82,12 +84,9 @@ pub fn last_largest(areas: &[f64]) -> usize
     ensures { result ≡ last_largest areas.now (length areas.now) }
 {
     let mut best = 0;
-    let mut i = 0;
-    while i < areas.len() {
-        let k = i;
-        i += 1;
-        if !(abs(areas[k]) < abs(areas[best])) {
-            best = k;
+    for (i, &area) in areas.iter().enumerate() {
+        if !(abs(area) < abs(areas[best])) {
+            best = i;
         }
     }
     best

@@ -3,24 +3,26 @@ ghost use Rattle.std.specs.Prelude.{◌≡◌, map, length};
 ghost use Rattle.lists.specs.Pieces.{pieces};
 ghost use Rattle.lists.specs.Placed.{placed};
 ghost use Rattle.tables.specs.Rows.{rows};
-ghost use Rattle.closed_region.specs.Loops.{box_in, boxes_in};
+ghost use Rattle.closed_region.specs.Loops.{box_in};
 ghost use Rattle.closed_region.specs.Region.{outer_among};
 
-use super::box_table::{box_count, boxes_into};
+use super::box_table::boxes_into;
+use super::boxes::Bounds;
 use super::enclosing::outer_loop;
 use super::outer::last_largest;
+use tables::corners::Corner;
 use tables::slices::part;
 
 // The areas of the loops stand in front of `areas`; their boxes are written to the front of `boxes`.
 // Where that has no room for them the largest area decides alone.
-pub fn closed_region(t: &[f64], counts: &[usize], areas: &[f64], boxes: &mut [f64]) -> usize
-    ensures value { result ≡ outer_among (pieces counts.now (rows t.now)) areas.now (length (boxes_in boxes.old)) }
-    ensures boxes_after { boxes_in boxes.new ≡ placed 0 (map box_in (pieces counts.now (rows t.now))) (boxes_in boxes.old) }
+pub fn closed_region(t: &[Corner], counts: &[usize], areas: &[f64], boxes: &mut [Bounds]) -> usize
+    ensures value { result ≡ outer_among (pieces counts.now (rows t.now)) areas.now (length boxes.old) }
+    ensures boxes_after { boxes.new ≡ placed 0 (map box_in (pieces counts.now (rows t.now))) boxes.old }
 {
     let n = counts.len();
     boxes_into(t, counts, boxes);
-    if box_count(boxes) < n {
+    if boxes.len() < n {
         return last_largest(part(areas, 0, n));
     }
-    outer_loop(part(boxes, 0, 4 * n), part(areas, 0, n))
+    outer_loop(part(boxes, 0, n), part(areas, 0, n))
 }

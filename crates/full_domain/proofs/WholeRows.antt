@@ -26,6 +26,7 @@ use Rattle.loops.specs.Area.{area_of, cross_sum}
 use Rattle.lists.specs.Parts.{part_of}
 use Rattle.tables.specs.Corners.{Corner, Corners, us, vs}
 use Rattle.tables.specs.Rows.{rows, none}
+use Rattle.tables.specs.declared.corners.Corner.{Corner as Held}
 use Rattle.full_domain.specs.Boundary.{is_whole, corner, corner_along, walked, side, sides, sides_of, us_of, vs_of, rungs_of, whole_corners, whole_area, area_within, FourCorners}
 use Rattle.full_domain.specs.Table.{placed_corner, whole_rows, RowsReach}
 use Rattle.full_domain.proofs.boundary.Corners.{four-corners}
@@ -43,7 +44,7 @@ walked-back rs i h =
 pub walked_on : (rs : List Float) (i : ℕ) → i + 1 < length rs → get_or rs i nan ≡ get_or (walked false rs) i nan
 walked_on rs i h = sym (ap (λ (l : List Float). get_or l i nan) (drop_last-take rs) ∙ get_or-take (length rs - 1) rs i nan (omega arith))
 
-module _ (s : Surface) (f : Frame) (a : Axis) (fixed : Float) (back : Bool) (rs t₀ : List Float) (start : ℕ) where
+module _ (s : Surface) (f : Frame) (a : Axis) (fixed : Float) (back : Bool) (rs : List Float) (t₀ : List Held) (start : ℕ) where
   abbrev along : Corners Vec3
   along = map (placed_corner s f) (side a fixed back rs)
 
@@ -58,24 +59,22 @@ module _ (s : Surface) (f : Frame) (a : Axis) (fixed : Float) (back : Bool) (rs 
       ∙ ap (placed_corner s f) (get_d_map (corner_along a fixed) (walked back rs) i (corner nan nan) nan (omega arith))
 
   -- t holds the first i corners
-  pub record Putting (t : List Float) (i : ℕ) : Type 0 where
+  pub record Putting (t : List Held) (i : ℕ) : Type 0 where
     pub far : i ≤ length rs - 1
-    pub long : length t ≡ length t₀
     pub is : rows t ≡ sets (rows t₀) start (take i along)
 
   pub putting : Putting t₀ 0
-  putting = record { far = omega arith; long = refl; is = refl }
+  putting = record { far = omega arith; is = refl }
 
-  pub putting_turn : (t t' : List Float) (i : ℕ) (c : Corner Vec3) (x : Float) → Putting t i → i + 1 < length rs → x ≡ get_or (walked back rs) i nan
-      → c ≡ placed_corner s f (corner_along a fixed x) → length t' ≡ length t → rows t' ≡ set (rows t) (start + i) c → Putting t' (i + 1)
-  putting_turn t t' i c x k h x_is c_is l e = record {
+  pub putting_turn : (t t' : List Held) (i : ℕ) (c : Corner Vec3) (x : Float) → Putting t i → i + 1 < length rs → x ≡ get_or (walked back rs) i nan
+      → c ≡ placed_corner s f (corner_along a fixed x) → rows t' ≡ set (rows t) (start + i) c → Putting t' (i + 1)
+  putting_turn t t' i c x k h x_is c_is e = record {
     far = omega arith;
-    long = l ∙ k.long;
     is = e ∙ (λ j. set (k.is j) (start + i) ((c_is ∙ ap (λ (y : Float). placed_corner s f (corner_along a fixed y)) x_is ∙ sym (along-at i h)) j))
         ∙ stored_more none along (rows t₀) start i (let n = length-along in omega arith);
   }
 
-  pub putting_end : (t : List Float) (i : ℕ) → Putting t i → length rs ≤ i + 1 → rows t ≡ sets (rows t₀) start along
+  pub putting_end : (t : List Held) (i : ℕ) → Putting t i → length rs ≤ i + 1 → rows t ≡ sets (rows t₀) start along
   putting_end t i k h = k.is ∙ ap (sets (rows t₀) start) (take_all i along (let n = length-along in omega arith))
 
 -- ---- the four sides, one behind the other
@@ -189,7 +188,7 @@ module _ (s : Surface) (f : Frame) (o : Resolved) (t : Corners Vec3) where
       (sym (placed_short 0 (whole_rows s f o) t (omega arith)))
 
   pub boundary_left : (m n : ℕ) (r p : Corners Vec3) (x : Float) → m ≡ length t → n ≡ length (whole_corners s o) → n ≤ m → is_whole s ≡ true
-      → r ≡ sets t 0 (map (placed_corner s f) (sides_of s o)) → p ≡ take n (drop 0 r) → x ≡ area_of (us p) (vs p) → Answered x r
+      → r ≡ sets t 0 (map (placed_corner s f) (sides_of s o)) → p ≡ take n r → x ≡ area_of (us p) (vs p) → Answered x r
   unfolding whole_area whole_rows
   boundary_left m n r p x e k h whole r_is p_is x_is =
       let l = length_whole in

@@ -14,25 +14,13 @@ use surfaces::surface::{Period, Surface};
 pub fn is_whole(surface: Surface) -> bool
     ensures { result ≡ is_whole surface }
 {
-    match surface {
-        Surface::Plane => false,
-        Surface::Cylinder { .. } => false,
-        Surface::Cone { .. } => false,
-        Surface::Sphere { .. } => true,
-        Surface::Torus { .. } => true,
-    }
+    matches!(surface, Surface::Sphere { .. } | Surface::Torus { .. })
 }
 
 fn clamped(n: usize) -> usize
     ensures { result ≡ clamped n }
 {
-    if n < 3 {
-        3
-    } else if n > 256 {
-        256
-    } else {
-        n
-    }
+    n.clamp(3, 256)
 }
 
 fn centre(range: Interval) -> f64

@@ -15,8 +15,7 @@ use numbers::math::{Frame, Vec2};
 use surfaces::options::Resolved;
 use surfaces::steps::Axis;
 use surfaces::surface::Surface;
-use tables::corners::{Corner, count, put_corner};
-use tables::pieces::part_of;
+use tables::corners::{Corner, put_corner};
 use tables::slices::part;
 
 // The rung of number i of a side.
@@ -60,22 +59,20 @@ fn put_side(
     fixed: f64,
     back: bool,
     rungs: &[f64],
-    t: &mut [f64],
+    t: &mut [Corner],
     start: usize,
 )
     requires { start + length rungs.now ≤ 1025 }
     ensures { rows t.new ≡ sets (rows t.old) start (map (placed_corner surface frame) (side axis fixed back rungs.now)) }
 {
-    let mut i = 0;
-    while i + 1 < rungs.len() {
+    for i in 0..rungs.len().saturating_sub(1) {
         let x = rung_of(rungs, back, i);
         put_corner(t, start + i, corner_along(surface, frame, axis, fixed, x));
-        i += 1;
     }
 }
 
 // The four sides, which are walked round the rectangle.
-fn put_sides(surface: Surface, frame: Frame, us: &[f64], vs: &[f64], t: &mut [f64])
+fn put_sides(surface: Surface, frame: Frame, us: &[f64], vs: &[f64], t: &mut [Corner])
     requires { ((0 < length us.now) × (length us.now ≤ 257)) × ((0 < length vs.now) × (length vs.now ≤ 257)) }
     ensures { rows t.new ≡ sets (rows t.old) 0 (map (placed_corner surface frame) (sides us.now vs.now (domain_of surface).u (domain_of surface).v)) }
 {
@@ -96,7 +93,7 @@ fn put_boundary(
     options: Resolved,
     su: usize,
     sv: usize,
-    t: &mut [f64],
+    t: &mut [Corner],
 )
     requires { (su ≡ length (rungs_of U surface options) - 1) × (sv ≡ length (rungs_of «V» surface options) - 1) }
     ensures { rows t.new ≡ sets (rows t.old) 0 (map (placed_corner surface frame) (sides_of surface options)) }
@@ -116,7 +113,7 @@ fn put_boundary(
 
 // Writes the boundary into the first rows, and answers its area. Where there is no room for all of it
 // nothing is written and 0.0 answered, as for the kinds that have no whole.
-pub fn full_domain_loop(surface: Surface, frame: Frame, options: Resolved, t: &mut [f64]) -> f64
+pub fn full_domain_loop(surface: Surface, frame: Frame, options: Resolved, t: &mut [Corner]) -> f64
     ensures value { result ≡ area_within (length (rows t.old)) surface options }
     ensures t_after { rows t.new ≡ placed 0 (whole_rows surface frame options) (rows t.old) }
     ensures rows_reach { RowsReach surface options (length (rows t.old)) (rows t.new) }
@@ -127,9 +124,9 @@ pub fn full_domain_loop(surface: Surface, frame: Frame, options: Resolved, t: &m
     let su = side_count(surface, Axis::U, options);
     let sv = side_count(surface, Axis::V, options);
     let n = 2 * (su + sv);
-    if count(t) < n {
+    if t.len() < n {
         return 0.0;
     }
     put_boundary(surface, frame, options, su, sv, t);
-    signed_area(part_of(t, 0, n))
+    signed_area(&t[..n])
 }

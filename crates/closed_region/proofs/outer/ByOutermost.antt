@@ -3,20 +3,21 @@
 use Prim.Native.Nat.{ℕ, zero, suc, ◌+◌, ◌≤◌, ◌<◌}
 use native.Mathlib.Omega.{arith}
 use native.Mathlib.Decide.{dec_le}
-use mathlib.Core.Path.{◌≡◌, refl, ap, ◌∙◌}
+use mathlib.Core.Path.{◌≡◌, refl, ap}
 use mathlib.Core.Bool.{Bool, true, false, cond, ◌||◌}
 use mathlib.Core.List.{List}
 use lib.Dec.{T, eqb, eqb→eq, eqb_refl}
 use lib.ListN.{length}
-use borrow.Author.Tests.{eqb-true, eqb-false, eq-eqb, ne_eqb}
+use Rattle.std.specs.Prelude.{Option, Some}
+use borrow.Author.Tests.{eqb-true, eqb-false, ne_eqb}
 use lib.Ieee.{Float, le}
 use lib.Ieee.Fits.{and_i, and_l, and_r}
 use Rattle.numbers.proofs.Monotone.{Zero}
 use Rattle.closed_region.specs.declared.boxes.Bounds.{Bounds}
 use Rattle.closed_region.specs.declared.outer.Outermost.{Outermost}
 use Rattle.closed_region.specs.Outer.{slack_of, encloses, box_at, every, passing, the_one, encloses_other, encloses_others, enclosing_one}
-use Rattle.closed_region.specs.ByOutermost.{empty_box, hull_of, enclosable, one_if_unenclosable, ends_among, unenclosable_among, outermost_of, encloses_outermost, encloses_outermost_at, the_one_against, by_outermost}
-use Rattle.closed_region.proofs.outer.Enclosing.{Fits, Encloses, Movable, tests, tested, movable, hull_movable, hull_enclosed, hull_each, empty_movable, empty_enclosed, enclosed_enclosable, slack_nonneg}
+use Rattle.closed_region.specs.ByOutermost.{Fits, empty_box, hull_of, enclosable, one_if_unenclosable, ends_among, unenclosable_among, outermost_of, encloses_outermost, encloses_outermost_at, the_one_against, by_outermost}
+use Rattle.closed_region.proofs.outer.Enclosing.{Encloses, Movable, tests, tested, movable, hull_movable, hull_enclosed, hull_each, empty_movable, empty_enclosed, enclosed_enclosable, slack_nonneg}
 
 -- ---- tests
 same_test : (a b : Bool) → (T a → T b) → (T b → T a) → a ≡ b
@@ -211,14 +212,14 @@ alone-encloses : (slack : Float) (boxes : List Bounds) → length boxes ≡ 1 �
 unfolding encloses_others encloses_other every
 alone-encloses slack boxes e = rw e
 
-alone_found : (slack : Float) (boxes : List Bounds) (none : ℕ) → length boxes ≡ 1 → 0 ≡ enclosing_one slack boxes none
+pub alone_found : (slack : Float) (boxes : List Bounds) → length boxes ≡ 1 → Some 0 ≡ enclosing_one slack boxes
 unfolding enclosing_one passing
-alone_found slack boxes none e = rw (e, alone-encloses slack boxes e)
+alone_found slack boxes e = rw (e, alone-encloses slack boxes e)
 
-several_found : (boxes : List Bounds) → ((j : ℕ) → Fits (box_at boxes j)) → (none : ℕ) → (length boxes ≡ 1 → ⊥)
-    → the_one_against (slack_of boxes) (outermost_of (slack_of boxes) boxes) boxes none ≡ enclosing_one (slack_of boxes) boxes none
+several_found : (boxes : List Bounds) → ((j : ℕ) → Fits (box_at boxes j)) → (length boxes ≡ 1 → ⊥)
+    → the_one_against (slack_of boxes) (outermost_of (slack_of boxes) boxes) boxes ≡ enclosing_one (slack_of boxes) boxes
 unfolding enclosing_one
-several_found boxes fit none many = ap (λ (is : List ℕ). the_one is none) (passing-same held others (length boxes) same)
+several_found boxes fit many = ap the_one (passing-same held others (length boxes) same)
   where
     slack : Float
     slack = slack_of boxes
@@ -235,26 +236,20 @@ several_found boxes fit none many = ap (λ (is : List ℕ). the_one is none) (pa
         same_test (held i) (others i) (enough slack boxes nonneg fit i h) (needed slack boxes nonneg fit i h many)
 
 -- 02, N6: "for any number of boxes it is proved to find what every box held against every other would". That the ends fit 64 bits holds of every box
--- of four slices, and of `nowhere`, which is read past the last one (`boxes_fit`).
-pub by_outermost_lem : (boxes : List Bounds) → ((j : ℕ) → Fits (box_at boxes j)) → (none : ℕ)
-    → by_outermost boxes none ≡ enclosing_one (slack_of boxes) boxes none
+-- that the code passes by value (`longer_side`), and of `nowhere`, which is read past the last one.
+pub by_outermost_lem : (boxes : List Bounds) → ((j : ℕ) → Fits (box_at boxes j)) → by_outermost boxes ≡ enclosing_one (slack_of boxes) boxes
 unfolding by_outermost
-by_outermost_lem boxes fit none = go (eqb (length boxes) 1) refl
+by_outermost_lem boxes fit = go (eqb (length boxes) 1) refl
   where
-    several : ℕ
-    several = the_one_against (slack_of boxes) (outermost_of (slack_of boxes) boxes) boxes none
+    several : Option ℕ
+    several = the_one_against (slack_of boxes) (outermost_of (slack_of boxes) boxes) boxes
 
-    go : (w : Bool) → eqb (length boxes) 1 ≡ w → cond w 0 several ≡ enclosing_one (slack_of boxes) boxes none
-    go true e = alone_found (slack_of boxes) boxes none (eqb-true (length boxes) 1 e)
-    go false e = several_found boxes fit none (eqb-false (length boxes) 1 e)
+    go : (w : Bool) → eqb (length boxes) 1 ≡ w → cond w (Some 0) several ≡ enclosing_one (slack_of boxes) boxes
+    go true e = alone_found (slack_of boxes) boxes (eqb-true (length boxes) 1 e)
+    go false e = several_found boxes fit (eqb-false (length boxes) 1 e)
 
--- ---- the code's two answers
-module _ (boxes : List Bounds) (none n : ℕ) (all : n ≡ length boxes) where
-  pub one_answer : n ≡ 1 → 0 ≡ by_outermost boxes none
-  unfolding by_outermost
-  one_answer e = rw (← all, eq-eqb n 1 e)
-
-  pub other_answer : (n ≡ 1 → ⊥) → (slack : Float) → slack ≡ slack_of boxes → (outermost : Outermost) → outermost ≡ outermost_of slack boxes
-      → (x : ℕ) → x ≡ the_one_against slack outermost boxes none → x ≡ by_outermost boxes none
-  unfolding by_outermost
-  other_answer d slack p outermost q x e = rw (ne_eqb (length boxes) 1 (λ o. d (all ∙ o)), ← p, ← q) e
+-- ---- the code's answer for two boxes or more
+pub other_answer : (boxes : List Bounds) → (length boxes ≡ 1 → ⊥) → (slack : Float) → slack ≡ slack_of boxes → (outermost : Outermost) → outermost ≡ outermost_of slack boxes
+    → (x : Option ℕ) → x ≡ the_one_against slack outermost boxes → x ≡ by_outermost boxes
+unfolding by_outermost
+other_answer boxes d slack p outermost q x e = rw (ne_eqb (length boxes) 1 d, ← p, ← q) e

@@ -4,7 +4,7 @@ use mathlib.Core.Bool.{Bool, true, false, cond, ◌&&◌}
 use mathlib.Core.List.{List, [], ◌∷◌, foldl}
 use lib.Dec.{T}
 use lib.IntN.{negsuc}
-use lib.Ieee.{Float, inf, binary64, le, lt, fits, of_bits}
+use lib.Ieee.{Float, inf, le, lt, of_bits}
 use lib.Ieee.Fits.{and_i, and_l, and_r}
 use Rattle.numbers.specs.Constants.{plus_zero, 10^-9}
 use Rattle.numbers.specs.Order.{min_of, max_of}
@@ -15,7 +15,7 @@ use Rattle.numbers.proofs.Zeros.{plus_zero_is}
 use Rattle.numbers.proofs.Infinities.{add_summand, add_mono_number, add_grows, top_plus, sub_summand, sub_mono_number, sub-falls, bottom_minus, mul_nonneg, le-max}
 use Rattle.closed_region.specs.declared.boxes.Bounds.{Bounds}
 use Rattle.closed_region.specs.Outer.{side_of, slack_of, encloses}
-use Rattle.closed_region.specs.ByOutermost.{empty_box, hull_of, enclosable}
+use Rattle.closed_region.specs.ByOutermost.{Fits, empty_box, hull_of, enclosable}
 
 -- ---- the slack is a number, and not negative
 billionth_positive : Positive 10^-9
@@ -54,13 +54,6 @@ module _ (slack a b x : Float) where
 chosen : (P : Float → Type 0) (a b : Float) (w : Bool) → P a → P b → P (cond w b a)
 chosen P a b true p q = q
 chosen P a b false p q = p
-
--- its ends are values of 64 bits
-pub record Fits (b : Bounds) : Type 0 where
-  pub ulo : T (fits binary64 b.ulo)
-  pub uhi : T (fits binary64 b.uhi)
-  pub vlo : T (fits binary64 b.vlo)
-  pub vhi : T (fits binary64 b.vhi)
 
 module _ (slack : Float) where
   -- ---- the four tests of one box held against another

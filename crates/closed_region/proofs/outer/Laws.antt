@@ -1,15 +1,15 @@
 -- The loops of the outer search, turn by turn.
 use Prim.Native.Nat.{ℕ, zero, suc, ◌+◌, ◌≤◌, ◌<◌}
 use mathlib.Core.Path.{◌≡◌, refl, sym, ap, ◌∙◌}
-use mathlib.Core.Bool.{Bool, true, false, cond}
+use mathlib.Core.Bool.{Bool, true, false, cond, true≢false}
 use mathlib.Core.List.{List, [], ◌∷◌, ◌++◌, append-nil, append_assoc}
 use native.Mathlib.Omega.{arith}
 use native.Mathlib.Numerals.{add-one}
 use native.Mathlib.Decide.{dec_le}
-use lib.Dec.{ltb}
-use lib.ListN.{length, get_or}
-use lib.Ieee.{Float, nan, lt}
-use borrow.Author.Tests.{lt-ltb, le-ltb}
+use Rattle.std.proofs.Common.{below_more}
+use lib.ListN.{length, get_or, get_or-eq_default}
+use lib.Ieee.{Float, nan, lt, fits}
+use Rattle.std.specs.Prelude.{Option, None, Some, is_some, option_to_list}
 use Rattle.numbers.specs.Constants.{plus_zero, 10^-9}
 use Rattle.numbers.specs.Order.{abs_of, max_of}
 use Rattle.numbers.specs.Rounded.{◌⊗◌}
@@ -17,87 +17,82 @@ use Rattle.lists.proofs.Folds.{Folding, folding, folding_turn, folding_end}
 use Rattle.closed_region.specs.declared.boxes.Bounds.{Bounds}
 use Rattle.closed_region.specs.declared.outer.Outermost.{Outermost}
 use Rattle.closed_region.specs.Outer.{side_of, slack_of, nowhere, box_at, passing, the_one, last_largest}
-use Rattle.closed_region.specs.ByOutermost.{empty_box, hull_of, enclosable, one_if_unenclosable, ends_among, unenclosable_among, outermost_of, encloses_outermost, encloses_outermost_at}
+use Rattle.closed_region.specs.ByOutermost.{Fits, empty_box, hull_of, enclosable, one_if_unenclosable, ends_among, unenclosable_among, outermost_of, encloses_outermost, encloses_outermost_at}
 
 -- ---- the largest side
 module _ (boxes : List Bounds) where
   abbrev larger : Float → Bounds → Float
   larger largest b = max_of largest (side_of b)
 
-  pub record Sides (n : ℕ) (largest : Float) (i : ℕ) : Type 0 where
-    pub all : n ≡ length boxes
+  pub record Sides (largest : Float) (i : ℕ) : Type 0 where
     pub fold : Folding larger plus_zero boxes largest i
+    pub fit : (j : ℕ) → j < i → Fits (box_at boxes j)
 
-  pub sides : (n : ℕ) → n ≡ length boxes → Sides n plus_zero 0
-  sides n e = record { all = e; fold = folding larger plus_zero boxes }
+  pub sides : Sides plus_zero 0
+  sides = record { fold = folding larger plus_zero boxes; fit = λ j h. absurd (omega arith) }
 
-  pub sides_turn : (n : ℕ) (largest x : Float) (b : Bounds) (i : ℕ) → Sides n largest i → i < n → b ≡ box_at boxes i → x ≡ side_of b → (y : Float) → y ≡ max_of largest x → Sides n y (i + 1)
-  sides_turn n largest x b i k h p e y q =
-      let a = k.all in
-      record { all = a; fold = folding_turn larger plus_zero boxes nowhere largest y i k.fold (omega arith) (q ∙ ap (max_of largest) (e ∙ ap side_of p)) }
+  pub sides_turn : (largest x y : Float) (i : ℕ) → Sides largest i → i < length boxes → x ≡ side_of (box_at boxes i) → Fits (box_at boxes i) → y ≡ max_of largest x → Sides y (i + 1)
+  sides_turn largest x y i k h e f q = record {
+    fold = folding_turn larger plus_zero boxes nowhere largest y i k.fold h (q ∙ ap (max_of largest) e);
+    fit = below_more _ _ k.fit f;
+  }
 
-  pub sides-end : (n : ℕ) (largest : Float) (i : ℕ) → Sides n largest i → n ≤ i → largest ⊗ 10^-9 ≡ slack_of boxes
+  pub sides-end : (largest : Float) (i : ℕ) → Sides largest i → length boxes ≤ i → largest ⊗ 10^-9 ≡ slack_of boxes
   unfolding slack_of
-  sides-end n largest i k h = let a = k.all in ap (λ (x : Float). x ⊗ 10^-9) (folding_end larger plus_zero boxes largest i k.fold (omega arith))
+  sides-end largest i k h = ap (λ (x : Float). x ⊗ 10^-9) (folding_end larger plus_zero boxes largest i k.fold h)
+
+  -- the ends of all boxes, and those that are read past the last one
+  pub all_fit : (largest : Float) (i : ℕ) → Sides largest i → length boxes ≤ i → (j : ℕ) → Fits (box_at boxes j)
+  all_fit largest i k h j = go (dec_le (suc j) i)
+    where
+      go : Dec (j < i) → Fits (box_at boxes j)
+      go (yes l) = k.fit j l
+      go (no l) = let past : length boxes ≤ j = omega arith in rw (get_or-eq_default boxes nowhere past) (unfold fits in record { ulo = tt; uhi = tt; vlo = tt; vhi = tt })
 
 -- ---- the outermost ends, and how many boxes are not enclosable
 module _ (slack : Float) (boxes : List Bounds) where
-  pub record Taken (n : ℕ) (ends : Bounds) (unenclosable i : ℕ) : Type 0 where
-    pub all : n ≡ length boxes
-    pub far : i ≤ n
+  pub record Taken (ends : Bounds) (unenclosable i : ℕ) : Type 0 where
+    pub far : i ≤ length boxes
     pub few : unenclosable ≤ i
     pub outermost : ends ≡ ends_among slack boxes i
     pub left : unenclosable ≡ unenclosable_among slack boxes i
 
-  pub taken : (n : ℕ) (ends : Bounds) → n ≡ length boxes → ends ≡ empty_box → Taken n ends 0 0
-  taken n ends e p = record {
-    all = e;
-    far = omega arith;
-    few = omega arith;
-    outermost = unfold ends_among in p;
-    left = unfold unenclosable_among in refl;
-  }
+  pub taken : (ends : Bounds) → ends ≡ empty_box → Taken ends 0 0
+  taken ends p = record { far = omega arith; few = omega arith; outermost = unfold ends_among in p; left = unfold unenclosable_among in refl }
 
-  module _
-      (n : ℕ) (ends : Bounds) (unenclosable i : ℕ) (k : Taken n ends unenclosable i) (h : i < n)
-      (b : Bounds) (p : b ≡ box_at boxes i) (t : Bool) (q : t ≡ enclosable slack b) where
-    test : (w : Bool) → t ≡ w → enclosable slack (box_at boxes i) ≡ w
-    test w e = rw (← p, ← q, e)
-
-    pub taken_hull : t ≡ true → (wide : Bounds) → wide ≡ hull_of ends b → Taken n wide unenclosable (i + 1)
+  module _ (ends : Bounds) (unenclosable i : ℕ) (k : Taken ends unenclosable i) (h : i < length boxes) (t : Bool) (q : t ≡ enclosable slack (box_at boxes i)) where
+    pub taken_hull : t ≡ true → (wide : Bounds) → wide ≡ hull_of ends (box_at boxes i) → Taken wide unenclosable (i + 1)
     taken_hull e wide w = record {
-      all = k.all;
       far = omega arith;
       few = omega (arith, k.few);
-      outermost = unfold ends_among in rw (add-one, test true e, ← p, ← k.outermost) w;
-      left = unfold unenclosable_among one_if_unenclosable in rw (add-one, test true e, ← k.left) (omega arith);
+      outermost = unfold ends_among in rw (add-one, ← q, e, ← k.outermost) w;
+      left = unfold unenclosable_among one_if_unenclosable in rw (add-one, ← q, e, ← k.left) (omega arith);
     }
 
     counts-one : t ≡ false → one_if_unenclosable slack (box_at boxes i) ≡ 1
     unfolding one_if_unenclosable
-    counts-one e = rw (test false e)
+    counts-one e = rw (← q, e)
 
-    pub taken_not : t ≡ false → Taken n ends (unenclosable + 1) (i + 1)
+    pub taken_not : t ≡ false → Taken ends (unenclosable + 1) (i + 1)
     taken_not e = record {
-      all = k.all;
       far = omega arith;
       few = omega (arith, k.few);
-      outermost = unfold ends_among in rw (add-one, test false e) k.outermost;
+      outermost = unfold ends_among in rw (add-one, ← q, e) k.outermost;
       left = unfold unenclosable_among in rw (add-one i, counts-one e, ← k.left);
     }
 
-  pub taken_all : (n : ℕ) (ends : Bounds) (unenclosable i : ℕ) → Taken n ends unenclosable i → n ≤ i
+  pub taken_all : (ends : Bounds) (unenclosable i : ℕ) → Taken ends unenclosable i → length boxes ≤ i
       → record { ends = ends; unenclosable = unenclosable } ≡ outermost_of slack boxes
   unfolding outermost_of
-  taken_all n ends unenclosable i k h = let e : i ≡ length boxes = omega (arith, k.far, k.all) in rw (k.outermost, k.left, e)
+  taken_all ends unenclosable i k h = let e : i ≡ length boxes = omega (arith, k.far) in rw (k.outermost, k.left, e)
 
 -- ---- a box held against them
-pub held_at : (slack : Float) (outermost : Outermost) (boxes : List Bounds) (i : ℕ) (b : Bounds) (t w : Bool)
-    → b ≡ box_at boxes i → t ≡ encloses_outermost slack outermost b → t ≡ w → encloses_outermost_at slack outermost boxes i ≡ w
+pub held_at : (slack : Float) (outermost : Outermost) (boxes : List Bounds) (i : ℕ) (t w : Bool)
+    → t ≡ encloses_outermost slack outermost (box_at boxes i) → t ≡ w → encloses_outermost_at slack outermost boxes i ≡ w
 unfolding encloses_outermost_at
-held_at slack outermost boxes i b t w p q e = rw (← p, ← q, e)
+held_at slack outermost boxes i t w q e = rw (← q, e)
 
--- ---- the one number below m at which a test passes; found is n until one is
+-- ---- the one number below n at which a test passes
 further : (test : ℕ → Bool) (n i : ℕ) → i ≤ n → (rest : List ℕ) × (passing test n ≡ passing test i ++ rest)
 unfolding passing
 further test zero i h = let e : i ≡ 0 = omega arith in ([], rw e)
@@ -109,40 +104,34 @@ further test (suc n) i h = go (λ k. further test n i k) (dec_le i n)
         (f.0 ++ cond (test n) (n ∷ []) [], rw f.1 (append_assoc (passing test i) f.0 (cond (test n) (n ∷ []) [])))
     go before (no k) = let e : i ≡ suc n = omega arith in ([], rw e (sym (append-nil (passing test (suc n)))))
 
-module _ (test : ℕ → Bool) (m : ℕ) where
-  -- those that were found
-  abbrev those : ℕ → ℕ → List ℕ
-  those n found = cond (ltb found n) (found ∷ []) []
+the_one_held : (found : Option ℕ) → found ≡ the_one (option_to_list found)
+the_one_held None = refl
+the_one_held (Some i) = refl
 
-  pub record Seeking (n found i : ℕ) : Type 0 where
-    pub all : n ≡ m
+module _ (test : ℕ → Bool) (n : ℕ) where
+  pub record Seeking (found : Option ℕ) (i : ℕ) : Type 0 where
     pub far : i ≤ n
-    pub held : passing test i ≡ those n found
+    pub held : passing test i ≡ option_to_list found
 
-  pub seeking : (n : ℕ) → n ≡ m → Seeking n n 0
-  seeking n e = let h : n ≤ n = omega arith in record { all = e; far = omega arith; held = unfold passing in rw (le-ltb n n h) }
+  pub seeking : Seeking None 0
+  seeking = record { far = omega arith; held = unfold passing in refl }
 
-  pub seeking_on : (n found i : ℕ) → Seeking n found i → i < n → test i ≡ false → Seeking n found (i + 1)
-  seeking_on n found i k h t = record { all = k.all; far = omega arith; held = unfold passing in rw (add-one, t) (append-nil (passing test i) ∙ k.held) }
+  pub seeking_on : (found : Option ℕ) (i : ℕ) → Seeking found i → i < n → test i ≡ false → Seeking found (i + 1)
+  seeking_on found i k h t = record { far = omega arith; held = unfold passing in rw (add-one, t) (append-nil (passing test i) ∙ k.held) }
 
-  pub seeking_one : (n found i : ℕ) → Seeking n found i → i < n → test i ≡ true → n ≤ found → Seeking n i (i + 1)
-  seeking_one n found i k h t l = record { all = k.all; far = omega arith; held = unfold passing in rw (add-one, k.held, le-ltb found n l, t, lt-ltb i n h) }
+  pub seeking_one : (found : Option ℕ) (i : ℕ) → Seeking found i → i < n → test i ≡ true → is_some found ≡ false → Seeking (Some i) (i + 1)
+  seeking_one None i k h t l = record { far = omega arith; held = unfold passing in rw (add-one, k.held, t) }
+  seeking_one (Some j) i k h t l = absurd (true≢false l)
 
-  pub seeking_two : (n found i none : ℕ) → Seeking n found i → i < n → test i ≡ true → found < n → none ≡ the_one (passing test m) none
-  seeking_two n found i none k h t l =
-      let a = k.all in
-      let f = further test m (suc i) (omega arith) in
-      let two : passing test (suc i) ≡ found ∷ i ∷ [] = unfold passing in rw (k.held, lt-ltb found n l, t) in
-      let every : passing test m ≡ found ∷ i ∷ f.0 = f.1 ∙ ap (λ (l : List ℕ). l ++ f.0) two in
-      sym (ap (λ (l : List ℕ). the_one l none) every)
+  pub seeking_two : (found : Option ℕ) (i : ℕ) → Seeking found i → i < n → test i ≡ true → is_some found ≡ true → None ≡ the_one (passing test n)
+  seeking_two None i k h t l = absurd (true≢false (sym l))
+  seeking_two (Some j) i k h t l =
+      let f = further test n (suc i) (omega arith) in
+      let two : passing test (suc i) ≡ j ∷ i ∷ [] = unfold passing in rw (k.held, t) in
+      sym (ap the_one (f.1 ∙ ap (λ (l : List ℕ). l ++ f.0) two))
 
-  pub found_one : (n found i none : ℕ) → Seeking n found i → n ≤ i → found < n → found ≡ the_one (passing test m) none
-  found_one n found i none k h l =
-      let e : i ≡ m = omega (arith, k.far, k.all) in sym (ap (λ (l : List ℕ). the_one l none) (rw (e, lt-ltb found n l) at k.held))
-
-  pub found_none : (n found i none : ℕ) → Seeking n found i → n ≤ i → n ≤ found → none ≡ the_one (passing test m) none
-  found_none n found i none k h l =
-      let e : i ≡ m = omega (arith, k.far, k.all) in sym (ap (λ (l : List ℕ). the_one l none) (rw (e, le-ltb found n l) at k.held))
+  pub seeking_end : (found : Option ℕ) (i : ℕ) → Seeking found i → n ≤ i → found ≡ the_one (passing test n)
+  seeking_end found i k h = let e : i ≡ n = omega (arith, k.far) in the_one_held found ∙ ap the_one (rw e at (sym k.held))
 
 -- ---- the last of the largest
 pub record Largest (areas : List Float) (best i : ℕ) : Type 0 where

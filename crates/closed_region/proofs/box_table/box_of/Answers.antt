@@ -1,9 +1,8 @@
 use Rattle.closed_region.proofs.BoxTable.{growing_turn, growing_end}
 use Rattle.closed_region.proofs.box_table.box_of.Goals as goal
 
-pub loop-i-preserved : goal.loop-i-preserved
-loop-i-preserved c = growing_turn _ _ _ _ _ _ _ c.loop-i.invariant c.loop-i-test.true c.u_at-u.ensures
-    c.v_at-v.ensures c.hull-b.ensures
+pub loop-c-preserved : goal.loop-c-preserved
+loop-c-preserved c = growing_turn _ _ _ _ c.loop-c.invariant c.loop-c-test.true c.hull-b.ensures
 
 pub returns : goal.returns
-returns c = growing_end _ _ _ _ c.loop-i.invariant c.loop-i-test.false
+returns c = growing_end _ _ _ c.loop-c.invariant c.loop-c-test.false

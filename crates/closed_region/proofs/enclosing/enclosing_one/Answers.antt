@@ -1,10 +1,9 @@
-use borrow.Author.Rules.{rules}
-use Rattle.closed_region.proofs.outer.ByOutermost.{one_answer, other_answer}
-use Rattle.closed_region.proofs.BoxTable.{table_found}
+use Rattle.std.proofs.Common.{◌∙◌}
+use Rattle.closed_region.proofs.outer.ByOutermost.{alone_found, by_outermost_lem, other_answer}
 use Rattle.closed_region.proofs.enclosing.enclosing_one.Goals as goal
 
-pub returns-then-box_count-eq1 : goal.returns-then-box_count-eq1
-returns-then-box_count-eq1 c = search (table_found, one_answer, rules)
+pub returns-then-boxes-eq1 : goal.returns-then-boxes-eq1
+returns-then-boxes-eq1 c = alone_found _ _ c.if-boxes-eq1.true
 
 pub returns : goal.returns
-returns c = search (table_found, other_answer, rules)
+returns c = other_answer _ c.if-boxes-eq1.false _ c.slack_of-slack.ensures.value _ c.outermost_of.ensures _ c.the_one_against.ensures ∙ by_outermost_lem _ c.slack_of-slack.ensures.fit

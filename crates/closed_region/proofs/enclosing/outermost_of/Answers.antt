@@ -1,15 +1,15 @@
-use borrow.Author.Rules.{rules}
 use Rattle.closed_region.proofs.outer.Laws as laws
 use Rattle.closed_region.proofs.enclosing.outermost_of.Goals as goal
+use Rattle.closed_region.proofs.enclosing.outermost_of.Goals.{then-encloses_within, else-encloses_within}
 
-pub loop-i-init : goal.loop-i-init
-loop-i-init c = laws.taken _ _ _ _ c.box_count-n.ensures c.empty_box-ends.ensures
+pub loop-b-init : goal.loop-b-init
+loop-b-init c = laws.taken _ _ _ c.empty_box-ends.ensures
 
-pub loop-i-preserved-then-encloses_within : goal.loop-i-preserved-then-encloses_within
-loop-i-preserved-then-encloses_within c = search (laws.taken_hull, rules)
-
-pub loop-i-preserved : goal.loop-i-preserved
-loop-i-preserved c = search (laws.taken_not, rules)
+pub loop-b-preserved : goal.loop-b-preserved
+loop-b-preserved c = elim c.if-encloses_within.branch [
+  | then-encloses_within w ↦ rw w.unenclosable-is (laws.taken_hull _ _ _ _ _ c.loop-b.invariant c.loop-b-test.true _ c.encloses_within.ensures w.if-encloses_within.true _ (rw w.ends-is w.hull-ends.ensures))
+  | else-encloses_within w ↦ rw (w.ends-is, w.unenclosable-is) (laws.taken_not _ _ _ _ _ c.loop-b.invariant c.loop-b-test.true _ c.encloses_within.ensures w.if-encloses_within.false)
+]
 
 pub returns : goal.returns
-returns c = laws.taken_all _ _ _ _ _ _ c.loop-i.invariant c.loop-i-test.false
+returns c = laws.taken_all _ _ _ _ _ c.loop-b.invariant c.loop-b-test.false

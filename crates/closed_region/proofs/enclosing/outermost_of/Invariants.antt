@@ -1,10 +1,5 @@
-use Prim.Native.Nat.{◌-◌}
-use Rattle.closed_region.specs.Loops.{boxes_in}
 use Rattle.closed_region.proofs.outer.Laws as laws
 use Rattle.closed_region.proofs.enclosing.outermost_of.Given as goal
 
-abbrev pub invariant-loop-i : goal.invariant-loop-i
-invariant-loop-i l = laws.Taken l.slack (boxes_in l.boxes) l.n l.ends l.unenclosable l.i
-
-abbrev pub decreases-loop-i : goal.decreases-loop-i
-decreases-loop-i l = l.n - l.i
+abbrev pub invariant-loop-b : goal.invariant-loop-b
+invariant-loop-b l = laws.Taken l.slack l.boxes l.ends l.unenclosable l.b-index

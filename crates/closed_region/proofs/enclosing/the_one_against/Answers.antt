@@ -1,15 +1,18 @@
-use borrow.Author.Rules.{rules}
 use Rattle.closed_region.proofs.outer.Laws as laws
 use Rattle.closed_region.proofs.enclosing.the_one_against.Goals as goal
+use Rattle.closed_region.proofs.enclosing.the_one_against.Goals.{then-encloses_outermost+else-is_some, else-encloses_outermost}
 
 pub loop-i-init : goal.loop-i-init
-loop-i-init c = laws.seeking _ _ _ c.box_count-n.ensures
+loop-i-init c = laws.seeking _ _
 
-pub returns-then-found-n : goal.returns-then-found-n
-returns-then-found-n c = search (laws.seeking_two, laws.held_at, rules)
-
-pub loop-i-preserved-then-encloses_outermost : goal.loop-i-preserved-then-encloses_outermost
-loop-i-preserved-then-encloses_outermost c = search (laws.seeking_one, laws.held_at, rules)
+pub returns-then-is_some : goal.returns-then-is_some
+returns-then-is_some c = laws.seeking_two _ _ _ _ c.loop-i.invariant c.loop-i-test.true
+    (laws.held_at _ _ _ _ _ _ c.encloses_outermost.ensures c.if-encloses_outermost.true) (rw (← c.is_some.ensures) c.if-is_some.true)
 
 pub loop-i-preserved : goal.loop-i-preserved
-loop-i-preserved c = search (laws.seeking_on, laws.held_at, rules)
+loop-i-preserved c = elim c.if-encloses_outermost.branch [
+  | then-encloses_outermost+else-is_some w ↦ rw w.found-is (laws.seeking_one _ _ _ _ c.loop-i.invariant c.loop-i-test.true
+      (laws.held_at _ _ _ _ _ _ c.encloses_outermost.ensures w.if-encloses_outermost.true) (rw (← w.is_some.ensures) w.if-is_some.false))
+  | else-encloses_outermost w ↦ rw w.found-is (laws.seeking_on _ _ _ _ c.loop-i.invariant c.loop-i-test.true
+      (laws.held_at _ _ _ _ _ _ c.encloses_outermost.ensures w.if-encloses_outermost.false))
+]

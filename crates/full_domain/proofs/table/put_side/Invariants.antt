@@ -1,10 +1,5 @@
-use Prim.Native.Nat.{◌-◌}
-use lib.ListN.{length}
 use Rattle.full_domain.proofs.WholeRows.{Putting}
 use Rattle.full_domain.proofs.table.put_side.Given as goal
 
 abbrev pub invariant-loop-i : goal.invariant-loop-i
 invariant-loop-i l = Putting l.surface l.frame l.axis l.fixed l.back l.rungs l.initial.t l.start l.t l.i
-
-abbrev pub decreases-loop-i : goal.decreases-loop-i
-decreases-loop-i l = length l.rungs - l.i
