@@ -28,7 +28,7 @@ use closed_face::face::closed_face;
 use face::Filled;
 use full_domain::boundary::full_domain_count;
 use full_domain::table::full_domain_loop;
-use holes::picked::{count_holes, pick_areas, pick_counts};
+use holes::picked::{count_holes, pick};
 use holes::rows::pick_holes;
 use laying::place::lay_rings;
 use laying::reseam::reseam;
@@ -202,7 +202,7 @@ fn band_of(
     let m = ring_reals(one.count);
     let n = ring_reals(other.count);
     pick_holes(holes, 0, corners, given, a, b);
-    pick_counts(&mut counts, 0, given, a, b);
+    pick(&mut counts, 0, given, a, b);
     let k = shorter(count_holes(given.len(), a, b), 16);
     let period = surface.u_period().length();
     band_between(
@@ -261,9 +261,9 @@ fn fill_band(
         Closing::Closed { count, area } => {
             copy_rows(t, count, &holes);
             counts[0] = count;
-            pick_counts(counts, 1, given, a, b);
+            pick(counts, 1, given, a, b);
             areas[0] = area;
-            pick_areas(areas, 1, measured, a, b);
+            pick(areas, 1, measured, a, b);
             Filled::Face {
                 path: Path::Wrapped,
                 loops: loops_left(given.len()),

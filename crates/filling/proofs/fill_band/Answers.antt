@@ -1,4 +1,5 @@
 use native.Mathlib.Omega.{arith}
+use borrow.Author.Rules.{rules}
 use Rattle.filling.proofs.Taken.{room_in}
 use Rattle.filling.proofs.Finding.{areas-put, face_of_lem}
 use Rattle.filling.proofs.Banded.{filled_short, filled_long}
@@ -13,8 +14,8 @@ returns-in-Closed c = λ s acc two given_is corners_are loops_are wraps_are area
     c.first_wrapping.ensures c.number_of-b.ensures in
     filled_short _ _ _ _ _ _ _ _ _ _ f _ _ _ (c.band_of-closing.ensures s f (room_in _ (omega arith))) _ _ c.in-Closed.is (omega arith)
     (omega (arith, c.holes-2-1.given))
-    _ a.counts.now _ a.areas.now _ _ c.pick_counts-arg-1.given.0.1 c.pick_areas-arg-1.given.0.1
-    c.copy_rows.ensures c.pick_counts.ensures (areas-put _ _ _ _ _ _ areas_are c.pick_areas.ensures) c.loops_left.ensures
+    _ a.counts.now _ a.areas.now _ _ (search rules) (search rules)
+    c.copy_rows.ensures c.pick.ensures (areas-put _ _ _ _ _ _ areas_are c.pick-in-Closed.ensures) c.loops_left.ensures
 
 pub returns-in-TooMany : goal.returns-in-TooMany
 returns-in-TooMany c = λ s acc two given_is corners_are loops_are wraps_are areas_are surface_is frame_is options_are sense_is.
