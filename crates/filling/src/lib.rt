@@ -39,6 +39,7 @@ use measuring::refusals::{first_wrapping, last_wrapping};
 use numbers::math::Frame;
 use records::check::Place;
 use results::Path;
+use seam::gap::Span;
 use strip::closing::Closing;
 use surfaces::options::Resolved;
 use surfaces::surface::Surface;
@@ -131,7 +132,7 @@ fn falls(travel: i32) -> bool
 }
 
 // The band between two rings into the front of t, and the holes onto its strip where they stand. The
-// arrays have places for the ends of 16 holes, for the columns of both rings, and for a wall of 512
+// arrays have places for what 16 holes cover, for the columns of both rings, and for a wall of 512
 // points: a strip of more than 1,024 points is too long.
 fn band_between(
     first: &mut [f64],
@@ -151,8 +152,10 @@ fn band_between(
         → BandIs (setting_of frame surface options period sense) (held_in first.old later.old first_falls later_falls (pieces counts.now (rows holes.old)))
         result t.new (pieces counts.now (rows holes.new)) }
 {
-    let mut low = [0.0; 16];
-    let mut high = [0.0; 16];
+    let mut spans = [Span {
+        low: 0.0,
+        high: 0.0,
+    }; 16];
     let mut u = [0.0; 512];
     let mut v = [0.0; 512];
     let mut x = [0.0; 512];
@@ -160,7 +163,7 @@ fn band_between(
     let mut z = [0.0; 512];
     let mut wall = [0.0; 2560];
     lay_rings(first, later, first_falls, later_falls, period);
-    reseam(first, later, holes, counts, &mut low, &mut high, period);
+    reseam(first, later, holes, counts, &mut spans, period);
     take_start(first, later, &mut u, &mut v, &mut x, &mut y, &mut z, period);
     let with1 = goes_with(sense, first_falls);
     let with2 = goes_with(sense, later_falls);
