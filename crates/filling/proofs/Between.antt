@@ -17,7 +17,9 @@ use Rattle.bands.specs.Rings.{Face, laid, reseam, started, trial}
 use Rattle.bands.specs.Strip.{Setting}
 use Rattle.bands.specs.Band.{goes_with, joined, holes}
 use Rattle.strip.specs.Closing.{closing_of, closed_into, room_for}
-use Rattle.strip.specs.declared.closing.Closing.{Closing}
+use Rattle.std.specs.Prelude.{Result}
+use Rattle.strip.specs.declared.closing.Closed.{Closed}
+use Rattle.strip.specs.declared.closing.TooMany.{TooMany}
 use Rattle.wrapped_region.specs.Ordered.{lower_of, upper_of}
 use Rattle.laying.specs.Held.{face_in, rings_in, reseam_within, started_within}
 use Rattle.laying.specs.Held.{given_in as held_in}
@@ -59,7 +61,7 @@ module _ (S : Setting Vec3) (counts : List ℕ) (first₀ later₀ holes₀ firs
   holes_are = ap (λ (f : Face Vec3). f.holes) seamed_is
 
   -- wall and t are the tables of close_ordered
-  pub between : (with₁ with₂ : Bool) (wall t t' : List Float) (r : Closing) → with₁ ≡ goes_with S given.first → with₂ ≡ goes_with S given.later
+  pub between : (with₁ with₂ : Bool) (wall t t' : List Float) (r : Result Closed TooMany) → with₁ ≡ goes_with S given.first → with₂ ≡ goes_with S given.later
       → length wall ≡ 2560 → length t ≡ 7680
       → r ≡ closing_of S (lower_of S with₁ with₂ (rings_of first₃ later₃)) (upper_of S with₁ with₂ (rings_of first₃ later₃)) (room_for wall t)
       → rows t' ≡ closed_into S (lower_of S with₁ with₂ (rings_of first₃ later₃)) (upper_of S with₁ with₂ (rings_of first₃ later₃)) (room_for wall t) (rows t)

@@ -40,7 +40,7 @@ use numbers::math::Frame;
 use records::check::Place;
 use results::Path;
 use seam::gap::Span;
-use strip::closing::Closing;
+use strip::closing::{Closed, TooMany};
 use surfaces::options::Resolved;
 use surfaces::surface::Surface;
 use tables::copies::copy_rows;
@@ -147,7 +147,7 @@ fn band_between(
     period: f64,
     sense: bool,
     t: &mut [f64; 7680],
-) -> Closing
+) -> Result<Closed, TooMany>
     ensures { length counts.now ≤ version1.loops → length (rows first.old) + length (rows later.old) ≤ version1.points
         → BandIs (setting_of frame surface options period sense) (held_in first.old later.old first_falls later_falls (pieces counts.now (rows holes.old)))
         result t.new (pieces counts.now (rows holes.new)) }
@@ -193,7 +193,7 @@ fn band_of(
     sense: bool,
     holes: &mut [f64],
     t: &mut [f64; 7680],
-) -> Closing
+) -> Result<Closed, TooMany>
     ensures { (s : List ℕ) → BandFace s corners.now given.now loops frame surface options sense a b → version1.points ≤ length (rows holes.old)
         → BandIs (setting_in s) (given_in s) result t.new (pieces (others a b given.now) (rows holes.new)) }
 {
@@ -261,20 +261,20 @@ fn fill_band(
         corners, given, loops, a, b, frame, surface, options, sense, &mut holes, t,
     );
     match closing {
-        Closing::Closed { count, area } => {
-            copy_rows(t, count, &holes);
-            counts[0] = count;
+        Ok(closed) => {
+            copy_rows(t, closed.count, &holes);
+            counts[0] = closed.count;
             pick(counts, 1, given, a, b);
-            areas[0] = area;
+            areas[0] = closed.area;
             pick(areas, 1, measured, a, b);
             Filled::Face {
                 path: Path::Wrapped,
                 loops: loops_left(given.len()),
             }
         }
-        Closing::TooMany(points) => Filled::Refused {
+        Err(long) => Filled::Refused {
             number: 12,
-            place: points,
+            place: long.corners,
         },
     }
 }
