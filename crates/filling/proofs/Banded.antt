@@ -25,10 +25,11 @@ use Rattle.bands.specs.Given.{Given}
 use Rattle.bands.specs.Strip.{Setting}
 use Rattle.bands.specs.Band.{strip_of, outer, holes}
 use Rattle.bands.proofs.Demand.{holes-counts, holes_as_many}
-use Rattle.strip.specs.Closing.{closed_as}
+use Rattle.std.specs.Prelude.{Result, Ok, Err}
+use Rattle.strip.specs.Closing.{closed_as, no_room}
+use Rattle.strip.specs.declared.closing.Closed.{Closed}
+use Rattle.strip.specs.declared.closing.TooMany.{TooMany}
 use Rattle.strip.specs.Count.{capped}
-use Rattle.strip.specs.declared.closing.Closing.{Closing}
-use Rattle.strip.specs.declared.closing.Closing.TheVariants.{Closed, TooMany}
 use Rattle.records.specs.Bytes.{◌=?◌}
 use Rattle.lists.specs.Elements.{sum}
 use Rattle.records.specs.Face as Record
@@ -149,36 +150,38 @@ module _ (s : List ℕ) (corners : List Float) (given : List ℕ) (loops : List 
 
   -- ---- how the band closes
 
-  module _ (r : Closing) (t : List Float) (now : List (Corners Vec3)) (is : BandIs S g r t now) where
-    closed_short : (n : ℕ) (area : Float) → r ≡ Closed n area → (strip_points s ≤ version1.strip) × ((n ≡ length (outer S g)) × (area ≡ signed_area (outer S g)))
+  module _ (r : Result Closed TooMany) (t : List Float) (now : List (Corners Vec3)) (is : BandIs S g r t now) where
+    closed_short : (c : Closed) → r ≡ Ok c → (strip_points s ≤ version1.strip) × (c ≡ closed_as (outer S g))
     unfolding band_closing strip_points
-    closed_short n area e = by_room (dec_le (length (strip_of S g)) version1.strip)
+    closed_short c e = by_room (dec_le (length (strip_of S g)) version1.strip)
       where
-        by_room : Dec (length (strip_of S g) ≤ version1.strip) → (length (strip_of S g) ≤ version1.strip) × ((n ≡ length (outer S g)) × (area ≡ signed_area (outer S g)))
-        by_room (yes h) = let c : Closed n area ≡ closed_as (outer S g) = sym e ∙ is.answer ∙ rw (le-leb (length (strip_of S g)) version1.strip h) in (h, (cc, cc))
+        by_room : Dec (length (strip_of S g) ≤ version1.strip) → (length (strip_of S g) ≤ version1.strip) × (c ≡ closed_as (outer S g))
+        by_room (yes h) = let a : ◌≡◌ {A = Result Closed TooMany} (Ok c) (Ok (closed_as (outer S g))) = sym e ∙ is.answer ∙ rw (le-leb (length (strip_of S g)) version1.strip h) in (h, cc)
         by_room (no h) =
-            let c : Closed n area ≡ TooMany (capped (length (strip_of S g))) = sym e ∙ is.answer ∙ rw (lt-leb (length (strip_of S g)) version1.strip (omega arith)) in
+            let a : Ok c ≡ Err (no_room (length (strip_of S g))) = sym e ∙ is.answer ∙ rw (lt-leb (length (strip_of S g)) version1.strip (omega arith)) in
             let z : ◌≡◌ {A = ℕ} 0 1 = cc in
             absurd (omega arith)
 
-    too_long : (n : ℕ) → r ≡ TooMany n → (version1.strip < strip_points s) × (n ≡ strip_points s)
+    too_long : (c : TooMany) → r ≡ Err c → (version1.strip < strip_points s) × (c.corners ≡ strip_points s)
     unfolding band_closing strip_points
-    too_long n e = by_room (dec_le (length (strip_of S g)) version1.strip)
+    too_long c e = by_room (dec_le (length (strip_of S g)) version1.strip)
       where
-        by_room : Dec (length (strip_of S g) ≤ version1.strip) → (version1.strip < length (strip_of S g)) × (n ≡ length (strip_of S g))
+        by_room : Dec (length (strip_of S g) ≤ version1.strip) → (version1.strip < length (strip_of S g)) × (c.corners ≡ length (strip_of S g))
         by_room (yes h) =
-            let c : TooMany n ≡ closed_as (outer S g) = sym e ∙ is.answer ∙ rw (le-leb (length (strip_of S g)) version1.strip h) in
+            let a : Err c ≡ Ok (closed_as (outer S g)) = sym e ∙ is.answer ∙ rw (le-leb (length (strip_of S g)) version1.strip h) in
             let z : ◌≡◌ {A = ℕ} 0 1 = cc in
             absurd (omega arith)
         by_room (no h) =
-            let c : TooMany n ≡ TooMany (capped (length (strip_of S g))) = sym e ∙ is.answer ∙ rw (lt-leb (length (strip_of S g)) version1.strip (omega arith)) in
-            let k : n ≡ capped (length (strip_of S g)) = cc in
+            let a : ◌≡◌ {A = Result Closed TooMany} (Err c) (Err (no_room (length (strip_of S g)))) = sym e ∙ is.answer ∙ rw (lt-leb (length (strip_of S g)) version1.strip (omega arith)) in
+            let b : c ≡ no_room (length (strip_of S g)) = cc in
+            let k : c.corners ≡ capped (length (strip_of S g)) = ap (λ (t : TooMany). t.corners) b in
             let m = strip-most s f.accepted in
             (omega arith, omega arith)
 
-    pub filled_long : (n : ℕ) (counts : List ℕ) (areas : List Float) → r ≡ TooMany n → FillsTo (verdict (strip_conditions version1) s) s (Refused 12 n) counts areas t
-    filled_long n counts areas e =
-        let l = too_long n e in
+    pub filled_long : (c : TooMany) (counts : List ℕ) (areas : List Float) → r ≡ Err c
+        → FillsTo (verdict (strip_conditions version1) s) s (Refused 12 c.corners) counts areas t
+    filled_long c counts areas e =
+        let l = too_long c e in
         record {
           answer = ap (Refused 12) l.1 ∙ sym (ap (λ (v : Verdict). filled_by v s) (long_refuses l.0));
           holds = λ p. absurd (passes≢refuses (sym (long_refuses l.0) ∙ p));
@@ -186,10 +189,16 @@ module _ (s : List ℕ) (corners : List Float) (given : List ℕ) (loops : List 
 
   -- ---- the holes behind it
 
-  module _ (r : Closing) (t held : List Float) (is : BandIs S g r t (pieces (others a b given) (rows held))) (n : ℕ) (area : Float) (closed : r ≡ Closed n area)
+  module _ (r : Result Closed TooMany) (t held : List Float) (is : BandIs S g r t (pieces (others a b given) (rows held))) (c : Closed) (closed : r ≡ Ok c)
       (t_long : length t ≡ 7680) (held_long : length held ≡ 2560) where
+    abbrev n : ℕ
+    n = c.count
+
+    abbrev area : Float
+    area = c.area
+
     fits : (strip_points s ≤ version1.strip) × ((n ≡ length (outer S g)) × (area ≡ signed_area (outer S g)))
-    fits = closed_short r t (pieces (others a b given) (rows held)) is n area closed
+    fits = let e = closed_short r t (pieces (others a b given) (rows held)) is c closed in (e.0, (ap (λ (d : Closed). d.count) e.1, ap (λ (d : Closed). d.area) e.1))
 
     band-few : n ≤ version1.strip
     unfolding outer strip_points

@@ -17,22 +17,24 @@ use Rattle.bands.specs.Rings.{Face, laid, reseam, started, trial}
 use Rattle.bands.specs.Strip.{Setting}
 use Rattle.bands.specs.Band.{goes_with, joined, holes}
 use Rattle.strip.specs.Closing.{closing_of, closed_into, room_for}
-use Rattle.strip.specs.declared.closing.Closing.{Closing}
+use Rattle.std.specs.Prelude.{Result}
+use Rattle.strip.specs.declared.closing.Closed.{Closed}
+use Rattle.strip.specs.declared.closing.TooMany.{TooMany}
 use Rattle.wrapped_region.specs.Ordered.{lower_of, upper_of}
-use Rattle.laying.specs.Held.{face_in, rings_in, has_room, reseam_within, started_within}
+use Rattle.laying.specs.Held.{face_in, rings_in, reseam_within, started_within}
 use Rattle.laying.specs.Held.{given_in as held_in}
 use Rattle.wrapped_region.specs.Rings.{rings_of}
 use Rattle.wrapped_region.proofs.Band.{closing_is, outer_in_front}
 use Rattle.records.specs.Limits.{version1}
 use Rattle.filling.specs.Band.{band_closing, BandIs}
 
-module _ (S : Setting Vec3) (counts : List ℕ) (first₀ later₀ holes₀ first₁ later₁ first₂ later₂ holes₂ first₃ later₃ : List Float) (ff lf : Bool) (m n room : ℕ)
+module _ (S : Setting Vec3) (counts : List ℕ) (first₀ later₀ holes₀ first₁ later₁ first₂ later₂ holes₂ first₃ later₃ : List Float) (ff lf : Bool) (n room : ℕ)
     (laid_first : (hs : List (Corners Vec3)) → rows first₁ ≡ (laid S.period (held_in first₀ later₀ ff lf hs)).first)
     (laid_later : (hs : List (Corners Vec3)) → rows later₁ ≡ (laid S.period (held_in first₀ later₀ ff lf hs)).later)
-    (seamed : face_in counts first₂ later₂ holes₂ ≡ reseam_within S.period counts m n (face_in counts first₁ later₁ holes₀))
+    (seamed : face_in counts first₂ later₂ holes₂ ≡ reseam_within S.period counts n (face_in counts first₁ later₁ holes₀))
     (Begun_first : (hs : List (Corners Vec3)) → rows first₃ ≡ (started_within S.period room (rings_in first₂ later₂ hs)).first)
     (begun_later : (hs : List (Corners Vec3)) → rows later₃ ≡ (started_within S.period room (rings_in first₂ later₂ hs)).later)
-    (few_low : length counts ≤ m) (few_high : length counts ≤ n) (short : length (rows first₂) + length (rows later₂) ≤ room) where
+    (few : length counts ≤ n) (short : length (rows first₂) + length (rows later₂) ≤ room) where
   abbrev given : Given Vec3
   given = held_in first₀ later₀ ff lf (pieces counts (rows holes₀))
 
@@ -41,8 +43,8 @@ module _ (S : Setting Vec3) (counts : List ℕ) (first₀ later₀ holes₀ firs
   laid_is = λ i. record { first = laid_first (pieces counts (rows holes₀)) i; later = laid_later (pieces counts (rows holes₀)) i; holes = pieces counts (rows holes₀) }
 
   seamed_is : face_in counts first₂ later₂ holes₂ ≡ reseam S.period (laid S.period given)
-  unfolding reseam_within has_room
-  seamed_is = seamed ∙ rw (le-leb (length counts) m few_low, le-leb (length counts) n few_high) (ap (reseam S.period) laid_is)
+  unfolding reseam_within
+  seamed_is = seamed ∙ rw (le-leb (length counts) n few) (ap (reseam S.period) laid_is)
 
   begun_is : started_within S.period room (rings_in first₂ later₂ (pieces counts (rows holes₂))) ≡ joined S given
   unfolding started_within joined
@@ -59,7 +61,7 @@ module _ (S : Setting Vec3) (counts : List ℕ) (first₀ later₀ holes₀ firs
   holes_are = ap (λ (f : Face Vec3). f.holes) seamed_is
 
   -- wall and t are the tables of close_ordered
-  pub between : (with₁ with₂ : Bool) (wall t t' : List Float) (r : Closing) → with₁ ≡ goes_with S given.first → with₂ ≡ goes_with S given.later
+  pub between : (with₁ with₂ : Bool) (wall t t' : List Float) (r : Result Closed TooMany) → with₁ ≡ goes_with S given.first → with₂ ≡ goes_with S given.later
       → length wall ≡ 2560 → length t ≡ 7680
       → r ≡ closing_of S (lower_of S with₁ with₂ (rings_of first₃ later₃)) (upper_of S with₁ with₂ (rings_of first₃ later₃)) (room_for wall t)
       → rows t' ≡ closed_into S (lower_of S with₁ with₂ (rings_of first₃ later₃)) (upper_of S with₁ with₂ (rings_of first₃ later₃)) (room_for wall t) (rows t)

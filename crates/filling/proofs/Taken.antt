@@ -26,7 +26,9 @@ use Rattle.loop_records.specs.Record.{no_loop}
 use Rattle.bands.specs.Columns.{setting_of}
 use Rattle.bands.specs.Given.{Measured, Given, Loop, falls}
 use Rattle.bands.specs.Strip.{Setting}
-use Rattle.strip.specs.declared.closing.Closing.{Closing}
+use Rattle.std.specs.Prelude.{Result}
+use Rattle.strip.specs.declared.closing.Closed.{Closed}
+use Rattle.strip.specs.declared.closing.TooMany.{TooMany}
 use Rattle.laying.specs.Held.{given_in as held_in}
 use Rattle.records.specs.Face as Record
 use Rattle.records.specs.Limits.{version1}
@@ -182,7 +184,7 @@ module _ (s : List ℕ) (corners : List Float) (given : List ℕ) (loops : List 
         let m = few in
         omega arith
 
-    pub band-taken : (p : Period) (period : Float) (r : Closing) (t' holes' : List Float) → p ≡ u_period surface → period ≡ period_length p
+    pub band-taken : (p : Period) (period : Float) (r : Result Closed TooMany) (t' holes' : List Float) → p ≡ u_period surface → period ≡ period_length p
         → (length counts ≤ version1.loops → length (rows first) + length (rows later) ≤ version1.points
         → BandIs (setting_of frame surface options period sense) (held_in first later ff lf (pieces counts (rows holes))) r t' (pieces counts (rows holes')))
         → BandIs (setting_in s) (given_in s) r t' (pieces (others a b given) (rows holes'))

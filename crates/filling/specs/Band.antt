@@ -1,5 +1,5 @@
 -- The band between two rings, closed into a table. The sentences are those of 01, "Bands", where no other place is named.
-use Rattle.std.specs.Prelude.{ℕ, ◌≤◌, ◌≡◌, Bool, cond, List, leb, Float, length, take, replicate}
+use Rattle.std.specs.Prelude.{ℕ, ◌≤◌, ◌≡◌, Bool, cond, List, leb, Float, length, take, replicate, Result, Ok, Err}
 use Rattle.numbers.specs.declared.math.Frame.{Frame}
 use Rattle.numbers.specs.declared.math.Vec3.{Vec3}
 use Rattle.surfaces.specs.declared.options.Resolved.{Resolved}
@@ -14,10 +14,9 @@ use Rattle.tables.specs.Rows.{rows}
 use Rattle.bands.specs.Given.{Given}
 use Rattle.bands.specs.Strip.{Setting}
 use Rattle.bands.specs.Band.{strip_of, outer, holes}
-use Rattle.strip.specs.Closing.{closed_as}
-use Rattle.strip.specs.Count.{capped}
-use Rattle.strip.specs.declared.closing.Closing.{Closing}
-use Rattle.strip.specs.declared.closing.Closing.TheVariants.{TooMany}
+use Rattle.strip.specs.Closing.{closed_as, no_room}
+use Rattle.strip.specs.declared.closing.Closed.{Closed}
+use Rattle.strip.specs.declared.closing.TooMany.{TooMany}
 use Rattle.records.specs.Accepted.{Accepted}
 use Rattle.records.specs.Face.{counts, corners_in}
 use Rattle.records.specs.Limits.{version1}
@@ -29,11 +28,11 @@ use Rattle.measuring.specs.LastWhere.{last_where}
 
 module _ (S : Setting Vec3) (given : Given Vec3) where
   -- how many corners the band has and its area; or how many points its strip has "before repeats are dropped", over 1,024 (01, refusal 12)
-  unfoldable pub band_closing : Closing
-  band_closing = cond (leb (length (strip_of S given)) version1.strip) (closed_as (outer S given)) (TooMany (capped (length (strip_of S given))))
+  unfoldable pub band_closing : Result Closed TooMany
+  band_closing = cond (leb (length (strip_of S given)) version1.strip) (Ok (closed_as (outer S given))) (Err (no_room (length (strip_of S given))))
 
   -- where it closes, the band is the front of the table t; hs are the holes as the strip takes them
-  pub record BandIs (r : Closing) (t : List Float) (hs : List (Corners Vec3)) : Type 0 where
+  pub record BandIs (r : Result Closed TooMany) (t : List Float) (hs : List (Corners Vec3)) : Type 0 where
     pub answer : r ≡ band_closing
     pub band : length (strip_of S given) ≤ version1.strip → take (length (outer S given)) (rows t) ≡ outer S given
     pub holes_are : hs ≡ holes S given

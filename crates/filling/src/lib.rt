@@ -28,7 +28,7 @@ use closed_face::face::closed_face;
 use face::Filled;
 use full_domain::boundary::full_domain_count;
 use full_domain::table::full_domain_loop;
-use holes::picked::{count_holes, pick_areas, pick_counts};
+use holes::picked::{count_holes, pick};
 use holes::rows::pick_holes;
 use laying::place::lay_rings;
 use laying::reseam::reseam;
@@ -39,7 +39,8 @@ use measuring::refusals::{first_wrapping, last_wrapping};
 use numbers::math::Frame;
 use records::check::Place;
 use results::Path;
-use strip::closing::Closing;
+use seam::gap::Span;
+use strip::closing::{Closed, TooMany};
 use surfaces::options::Resolved;
 use surfaces::surface::Surface;
 use tables::copies::copy_rows;
@@ -131,7 +132,7 @@ fn falls(travel: i32) -> bool
 }
 
 // The band between two rings into the front of t, and the holes onto its strip where they stand. The
-// arrays have places for the ends of 16 holes, for the columns of both rings, and for a wall of 512
+// arrays have places for what 16 holes cover, for the columns of both rings, and for a wall of 512
 // points: a strip of more than 1,024 points is too long.
 fn band_between(
     first: &mut [f64],
@@ -146,13 +147,15 @@ fn band_between(
     period: f64,
     sense: bool,
     t: &mut [f64; 7680],
-) -> Closing
+) -> Result<Closed, TooMany>
     ensures { length counts.now ≤ version1.loops → length (rows first.old) + length (rows later.old) ≤ version1.points
         → BandIs (setting_of frame surface options period sense) (held_in first.old later.old first_falls later_falls (pieces counts.now (rows holes.old)))
         result t.new (pieces counts.now (rows holes.new)) }
 {
-    let mut low = [0.0; 16];
-    let mut high = [0.0; 16];
+    let mut spans = [Span {
+        low: 0.0,
+        high: 0.0,
+    }; 16];
     let mut u = [0.0; 512];
     let mut v = [0.0; 512];
     let mut x = [0.0; 512];
@@ -160,7 +163,7 @@ fn band_between(
     let mut z = [0.0; 512];
     let mut wall = [0.0; 2560];
     lay_rings(first, later, first_falls, later_falls, period);
-    reseam(first, later, holes, counts, &mut low, &mut high, period);
+    reseam(first, later, holes, counts, &mut spans, period);
     take_start(first, later, &mut u, &mut v, &mut x, &mut y, &mut z, period);
     let with1 = goes_with(sense, first_falls);
     let with2 = goes_with(sense, later_falls);
@@ -190,7 +193,7 @@ fn band_of(
     sense: bool,
     holes: &mut [f64],
     t: &mut [f64; 7680],
-) -> Closing
+) -> Result<Closed, TooMany>
     ensures { (s : List ℕ) → BandFace s corners.now given.now loops frame surface options sense a b → version1.points ≤ length (rows holes.old)
         → BandIs (setting_in s) (given_in s) result t.new (pieces (others a b given.now) (rows holes.new)) }
 {
@@ -202,7 +205,7 @@ fn band_of(
     let m = ring_reals(one.count);
     let n = ring_reals(other.count);
     pick_holes(holes, 0, corners, given, a, b);
-    pick_counts(&mut counts, 0, given, a, b);
+    pick(&mut counts, 0, given, a, b);
     let k = shorter(count_holes(given.len(), a, b), 16);
     let period = surface.u_period().length();
     band_between(
@@ -258,20 +261,20 @@ fn fill_band(
         corners, given, loops, a, b, frame, surface, options, sense, &mut holes, t,
     );
     match closing {
-        Closing::Closed { count, area } => {
-            copy_rows(t, count, &holes);
-            counts[0] = count;
-            pick_counts(counts, 1, given, a, b);
-            areas[0] = area;
-            pick_areas(areas, 1, measured, a, b);
+        Ok(closed) => {
+            copy_rows(t, closed.count, &holes);
+            counts[0] = closed.count;
+            pick(counts, 1, given, a, b);
+            areas[0] = closed.area;
+            pick(areas, 1, measured, a, b);
             Filled::Face {
                 path: Path::Wrapped,
                 loops: loops_left(given.len()),
             }
         }
-        Closing::TooMany(points) => Filled::Refused {
+        Err(long) => Filled::Refused {
             number: 12,
-            place: points,
+            place: long.corners,
         },
     }
 }

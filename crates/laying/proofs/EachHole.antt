@@ -6,14 +6,17 @@ use mathlib.Core.List.{List, [], ◌∷◌, map}
 use native.Mathlib.Numerals.{add-one}
 use native.Mathlib.Omega.{arith}
 use lib.Ieee.{Float}
-use lib.ListN.{length, get_or, set, take, drop, drop_of_length-le}
+use lib.ListN.{length, get_or, set, take, drop, length-map, drop_of_length-le}
 use lib.Seq.{drop-cons}
 use Rattle.numbers.specs.declared.math.Vec3.{Vec3}
 use Rattle.lists.specs.Parts.{on_part}
 use Rattle.lists.specs.Pieces.{pieces, map_pieces}
 use Rattle.lists.specs.Placed.{placed}
+use Rattle.lists.proofs.Elements.{get_d_map}
+use Rattle.lists.proofs.Filling.{Filling, front, front_turn, filling_end}
 use Rattle.lists.proofs.Maps.{map-take, map-drop}
 use Rattle.lists.proofs.Pieces.{Cutting, cutting, cutting_turn, cutting_piece, length-pieces, Piecing, piecing, piecing_turn, piecing_end}
+use Rattle.lists.proofs.Placed.{placed_short, placed_whole}
 use Rattle.tables.specs.Corners.{Corner, Corners, us, move_u}
 use Rattle.tables.specs.Moves.{moved_by, unless_zero}
 use Rattle.tables.specs.declared.moves.Move.TheVariants.{Down}
@@ -22,8 +25,9 @@ use Rattle.tables.proofs.Rows.{length-rows, rows_part}
 use Rattle.tables.proofs.Taking.{count-u}
 use Rattle.rings.specs.Choices.{strip_shift, straddles}
 use Rattle.rings.proofs.Lengths.{length-unless_zero}
-use Rattle.seam.specs.Holes.{end_of}
-use Rattle.seam.proofs.EachHole.{Ending, ending, ending_turn, ending_end}
+use Rattle.seam.specs.declared.gap.Span.{Span}
+use Rattle.seam.specs.declared.gap.Gap.{Gap}
+use Rattle.seam.specs.Gap.{span_of, sorted, gap_along, widest_gap}
 use Rattle.bands.specs.Rings.{onto, any_straddles}
 use Rattle.rings.specs.Starts.{less_u}
 
@@ -36,11 +40,11 @@ pub straddles_in : (period lo : Float) (from to : ℕ) (t : List Float) (b : Boo
     → b ≡ straddles period lo (us (take (to - from) (drop from (rows t))))
 straddles_in period lo from to t b e = e ∙ ap (straddles period lo) (us_part from to t)
 
-pub end_in : (upper : Bool) (from to : ℕ) (t : List Float) (x : Float) → x ≡ end_of upper (us (rows (take (5 * to - 5 * from) (drop (5 * from) t))))
-    → x ≡ end_of upper (take (to - from) (drop from (us (rows t))))
-end_in upper from to t x e =
+pub span_in : (from to : ℕ) (t : List Float) (x : Span) → x ≡ span_of (us (rows (take (5 * to - 5 * from) (drop (5 * from) t))))
+    → x ≡ span_of (take (to - from) (drop from (us (rows t))))
+span_in from to t x e =
     let u : Corner Vec3 → Float = λ (c : Corner Vec3). c.u in
-    e ∙ ap (end_of upper) (us_part from to t ∙ map-take u (to - from) (drop from (rows t)) ∙ ap (take (to - from)) (map-drop u from (rows t)))
+    e ∙ ap span_of (us_part from to t ∙ map-take u (to - from) (drop from (rows t)) ∙ ap (take (to - from)) (map-drop u from (rows t)))
 
 module _ (period lo : Float) where
   pub onto_is : (r r' : Corners Vec3) (step : Float) → step ≡ strip_shift period lo (us r) → r' ≡ unless_zero step (move_u (moved_by (Down step))) r → r' ≡ onto period lo r
@@ -122,27 +126,45 @@ module _ (period lo : Float) where
     crossing_end from i s h =
         sym (s.is ∙ ap (any_straddles period lo) (drop_of_length-le holes {i = i} (let l = length-pieces ns (rows t) in omega arith)) ∙ straddles-none)
 
--- ---- the ends of each hole
+-- ---- what each hole covers
 
-pub end-upper : (upper : Bool) (r : Corners Vec3) (x : Float) → upper ≡ true → x ≡ end_of true (us r) → x ≡ end_of upper (us r)
-end-upper upper r x t e = e ∙ ap (λ (b : Bool). end_of b (us r)) (sym t)
+module _ (ns : List ℕ) (t : List Float) (d₀ : List Span) where
+  abbrev spans : List Span
+  spans = map span_of (pieces ns (us (rows t)))
 
-module _ (upper : Bool) (ns : List ℕ) (t d₀ : List Float) (n : ℕ) where
-  pub record Bounding (d : List Float) (from i : ℕ) : Type 0 where
-    pub count : n ≡ length (us (rows t))
-    pub whole : n ≡ length (rows t)
-    pub is : Ending upper ns (us (rows t)) d₀ d from i
+  length-spans : length spans ≡ length ns
+  length-spans = length-map (pieces ns (us (rows t))) span_of ∙ length-pieces ns (us (rows t))
 
-  pub bounding : n ≡ length (rows t) → length ns ≤ length d₀ → Bounding d₀ 0 0
-  bounding e h = record { count = count-u t n e; whole = e; is = ending upper ns (us (rows t)) d₀ h }
+  pub not_covering : length d₀ < length ns → d₀ ≡ placed 0 spans d₀
+  not_covering h = sym (placed_short 0 spans d₀ (let l = length-spans in omega arith))
 
-  pub bounding_turn : (d : List Float) (from to i : ℕ) (x : Float) → Bounding d from i → i < length ns → to ≡ min (from + get_or ns i 0) n
-      → x ≡ end_of upper (take (to - from) (drop from (us (rows t)))) → Bounding (set d i x) to (i + 1)
-  bounding_turn d from to i x b h e x_is = record {
-    count = b.count;
-    whole = b.whole;
-    is = ending_turn upper ns (us (rows t)) d₀ d from to i x b.is h (e ∙ ap (min (from + get_or ns i 0)) b.count) x_is;
-  }
+  module _ (n : ℕ) where
+    pub record Covering (d : List Span) (from i : ℕ) : Type 0 where
+      pub count : n ≡ length (us (rows t))
+      pub whole : n ≡ length (rows t)
+      pub at : Cutting ns (us (rows t)) from i
+      pub fill : Filling 0 spans d₀ d i
 
-  pub bounding_end : (d : List Float) (from i : ℕ) → Bounding d from i → length ns ≤ i → d ≡ placed 0 (map (end_of upper) (pieces ns (us (rows t)))) d₀
-  bounding_end d from i b h = ending_end upper ns (us (rows t)) d₀ d from i b.is h
+    pub covering : n ≡ length (rows t) → length ns ≤ length d₀ → Covering d₀ 0 0
+    covering e h = record { count = count-u t n e; whole = e; at = cutting ns (us (rows t)); fill = front spans d₀ (let l = length-spans in omega arith) }
+
+    pub covering_turn : (d : List Span) (from to i : ℕ) (x : Span) → Covering d from i → i < length ns → to ≡ min (from + get_or ns i 0) n
+        → x ≡ span_of (take (to - from) (drop from (us (rows t)))) → Covering (set d i x) to (i + 1)
+    covering_turn d from to i x p h e x_is =
+        let to_is = e ∙ ap (min (from + get_or ns i 0)) p.count in
+        record {
+          count = p.count;
+          whole = p.whole;
+          at = cutting_turn ns (us (rows t)) from to i p.at h to_is;
+          fill = front_turn spans d₀ d i x (span_of []) p.fill (let l = length-spans in omega arith)
+              (x_is ∙ ap span_of (sym (cutting_piece ns (us (rows t)) from to i p.at h to_is))
+              ∙ sym (get_d_map span_of (pieces ns (us (rows t))) i (span_of []) [] (let l = length-pieces ns (us (rows t)) in omega arith)));
+        }
+
+    pub covering_end : (d : List Span) (from i : ℕ) → Covering d from i → length ns ≤ i → d ≡ placed 0 spans d₀
+    covering_end d from i p h = filling_end 0 spans d₀ d i p.fill (let l = length-spans in omega arith)
+
+  pub gap_is : (lo hi : Float) (spans₁ spans₂ : List Span) (g : Gap) → length d₀ ≡ length ns → spans₁ ≡ placed 0 spans d₀ → spans₂ ≡ sorted spans₁
+      → g ≡ gap_along lo hi spans₂ → g ≡ widest_gap lo hi spans
+  unfolding widest_gap
+  gap_is lo hi spans₁ spans₂ g long all in_order e = e ∙ ap (gap_along lo hi) (in_order ∙ ap sorted (all ∙ placed_whole spans d₀ (length-spans ∙ sym long)))

@@ -22,7 +22,7 @@ use Rattle.seam.specs.Gap.{span_of, widest_gap, usable}
 use Rattle.bands.specs.Rings.{Face, onto, on_strip, any_straddles, across_seam, gap_of, recut, cut_anew, has_strip, has_gap, reseam}
 use Rattle.rings.specs.Starts.{raised}
 use Rattle.bands.proofs.Recut as Recut
-use Rattle.laying.specs.Held.{has_room, reseam_within}
+use Rattle.laying.specs.Held.{reseam_within}
 use Rattle.laying.proofs.EachHole.{length-onto}
 
 -- ---- whether there is a strip
@@ -116,19 +116,11 @@ module _ (period : Float) (ns : List ℕ) (first later holes : Corners Vec3) whe
             → face_of first' later' holes₂ ≡ reseam period face
         at_gap e first' later' holes₂ d = anew first' later' holes₂ d ∙ sym (tested true e)
 
-  module _ (m n : ℕ) where
-    within : (b : Bool) → has_room ns m n ≡ b → (s : Face Vec3) → s ≡ cond b (reseam period face) face → s ≡ reseam_within period ns m n face
+  module _ (n : ℕ) where
+    pub no_room : n < length ns → face ≡ reseam_within period ns n face
     unfolding reseam_within
-    within b e s d = d ∙ sym (ap (λ (x : Bool). cond x (reseam period face) face) e)
+    no_room h = sym (rw (lt-leb _ _ h))
 
-    pub short_low : m < length ns → face ≡ reseam_within period ns m n face
-    unfolding has_room
-    short_low h = within false (rw (lt-leb _ _ h)) face refl
-
-    pub short_high : length ns ≤ m → n < length ns → face ≡ reseam_within period ns m n face
-    unfolding has_room
-    short_high k h = within false (rw (le-leb _ _ k, lt-leb _ _ h)) face refl
-
-    pub with_room : length ns ≤ m → length ns ≤ n → (s : Face Vec3) → s ≡ reseam period face → s ≡ reseam_within period ns m n face
-    unfolding has_room
-    with_room k h s d = within true (rw (le-leb _ _ k, le-leb _ _ h)) s d
+    pub with_room : length ns ≤ n → (s : Face Vec3) → s ≡ reseam period face → s ≡ reseam_within period ns n face
+    unfolding reseam_within
+    with_room h s d = d ∙ sym (rw (le-leb _ _ h))

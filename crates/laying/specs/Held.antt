@@ -1,5 +1,5 @@
 -- The rings and the holes of a face, held in tables.
-use Rattle.std.specs.Prelude.{ℕ, ◌+◌, min, Bool, cond, ◌&&◌, List, leb, ltb, Float, length}
+use Rattle.std.specs.Prelude.{ℕ, ◌+◌, min, Bool, cond, List, leb, ltb, Float, length}
 use Rattle.numbers.specs.declared.math.Vec3.{Vec3}
 use Rattle.lists.specs.Pieces.{pieces}
 use Rattle.tables.specs.Corners.{Corners}
@@ -17,13 +17,9 @@ given_in first later first_falls later_falls holes = record { first = loop_in fi
 abbrev pub face_in : List ℕ → List Float → List Float → List Float → Face Vec3
 face_in counts first later holes = record { first = rows first; later = rows later; holes = pieces counts (rows holes) }
 
--- whether the holes' ends fit in m and in n places
-unfoldable pub has_room : List ℕ → ℕ → ℕ → Bool
-has_room counts m n = leb (length counts) m && leb (length counts) n
-
--- `reseam` with m and n places for the holes' ends: where they are too few, nothing is done
-unfoldable pub reseam_within : Float → List ℕ → ℕ → ℕ → Face Vec3 → Face Vec3
-reseam_within period counts m n face = cond (has_room counts m n) (reseam period face) face
+-- `reseam` with n places for what the holes cover: where they are too few, nothing is done
+unfoldable pub reseam_within : Float → List ℕ → ℕ → Face Vec3 → Face Vec3
+reseam_within period counts n face = cond (leb (length counts) n) (reseam period face) face
 
 abbrev pub rings_in : List Float → List Float → List (Corners Vec3) → Face Vec3
 rings_in first later holes = record { first = rows first; later = rows later; holes = holes }

@@ -7,10 +7,11 @@ ghost use Rattle.lists.specs.Placed.{placed};
 ghost use Rattle.tables.specs.Corners.{us};
 ghost use Rattle.tables.specs.Rows.{rows};
 ghost use Rattle.rings.specs.Choices as Choices;
-ghost use Rattle.seam.specs.Holes.{end_of};
+ghost use Rattle.seam.specs.Gap.{span_of};
 ghost use Rattle.bands.specs.Rings.{onto, any_straddles};
 
 use rings::table_choices::{greatest, least, straddles, strip_shift};
+use seam::gap::Span;
 use tables::corners::count;
 use tables::moves::{Move, move_unless_zero};
 use tables::slices::piece_end;
@@ -74,39 +75,36 @@ pub fn any_straddles(t: &[f64], counts: &[usize], lo: f64, period: f64) -> bool
     false
 }
 
-fn end_of(t: &[f64], upper: bool) -> f64
-    ensures { result ≡ end_of upper (us (rows t.now)) }
+// What one hole covers, by its u.
+fn span_of(t: &[f64]) -> Span
+    ensures { result ≡ span_of (us (rows t.now)) }
 {
-    if upper {
-        return greatest(t);
-    }
-    least(t)
+    let low = least(t);
+    let high = greatest(t);
+    Span { low, high }
 }
 
-fn end_of_part(t: &[f64], from: usize, to: usize, upper: bool) -> f64
+fn span_of_part(t: &[f64], from: usize, to: usize) -> Span
     requires { (from ≤ to) × (to ≤ length (rows t.now)) }
-    ensures { result ≡ end_of upper (take (to - from) (drop from (us (rows t.now)))) }
+    ensures { result ≡ span_of (take (to - from) (drop from (us (rows t.now)))) }
 {
     let a = 5 * from;
     let e = 5 * to;
-    end_of(&t[a..e], upper)
+    span_of(&t[a..e])
 }
 
-// The upper or the lower end of each hole into the front of `out`, and nothing where they do not
-// fit.
-pub fn ends_into(out: &mut [f64], t: &[f64], counts: &[usize], upper: bool)
-    ensures { out.new ≡ placed 0 (map (end_of upper) (pieces counts.now (us (rows t.now)))) out.old }
+// What each hole covers into the front of `out`, and nothing where they do not fit.
+pub fn spans_into(out: &mut [Span], t: &[f64], counts: &[usize])
+    ensures { out.new ≡ placed 0 (map span_of (pieces counts.now (us (rows t.now)))) out.old }
 {
     if out.len() < counts.len() {
         return;
     }
     let n = count(t);
     let mut from = 0;
-    let mut i = 0;
-    while i < counts.len() {
-        let to = piece_end(n, from, counts[i]);
-        out[i] = end_of_part(t, from, to, upper);
+    for (i, rows) in counts.iter().enumerate() {
+        let to = piece_end(n, from, *rows);
+        out[i] = span_of_part(t, from, to);
         from = to;
-        i += 1;
     }
 }

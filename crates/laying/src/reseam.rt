@@ -10,11 +10,11 @@ ghost use Rattle.seam.specs.Gap.{span_of, widest_gap};
 ghost use Rattle.bands.specs.Rings.{recut, onto, reseam};
 ghost use Rattle.laying.specs.Held.{face_in, reseam_within};
 
-use super::holes::{any_straddles, ends_into, onto_all};
+use super::holes::{any_straddles, onto_all, spans_into};
 use numbers::order::is_finite;
 use rings::table_choices::{first_open_past, greatest_u, least_u};
 use rings::table_turns::recut_at;
-use seam::gap::{Gap, sort_spans, usable, widest_gap};
+use seam::gap::{Gap, Span, sort_spans, usable, widest_gap};
 use tables::moves::Move;
 
 // Whether the rings make a strip at all, from lo, their least u, on.
@@ -27,37 +27,16 @@ fn has_strip(lo: f64, first: &[f64], later: &[f64]) -> bool
     false
 }
 
-// The widest gap between the holes, with no more places than there are holes.
-fn gap_between(
-    low: &mut [f64],
-    high: &mut [f64],
-    holes: &[f64],
-    counts: &[usize],
-    lo: f64,
-    hi: f64,
-) -> Gap
-    requires { (length low.old ≡ length counts.now) × (length high.old ≡ length counts.now) }
-    ensures { result ≡ widest_gap lo hi (map span_of (pieces counts.now (us (rows holes.now)))) }
-{
-    ends_into(low, holes, counts, false);
-    ends_into(high, holes, counts, true);
-    sort_spans(low, high);
-    widest_gap(low, high, lo, hi)
-}
-
-fn gap_of(
-    low: &mut [f64],
-    high: &mut [f64],
-    holes: &[f64],
-    counts: &[usize],
-    lo: f64,
-    hi: f64,
-) -> Gap
-    requires { (length counts.now ≤ length low.old) × (length counts.now ≤ length high.old) }
+// The widest gap between the holes. What they cover stands in the front of `spans`.
+fn gap_of(spans: &mut [Span], holes: &[f64], counts: &[usize], lo: f64, hi: f64) -> Gap
+    requires { length counts.now ≤ length spans.old }
     ensures { result ≡ widest_gap lo hi (map span_of (pieces counts.now (us (rows holes.now)))) }
 {
     let n = counts.len();
-    gap_between(&mut low[0..n], &mut high[0..n], holes, counts, lo, hi)
+    let covered = &mut spans[..n];
+    spans_into(covered, holes, counts);
+    sort_spans(covered);
+    widest_gap(covered, lo, hi)
 }
 
 // A ring cut anew at its first open point at or past the cut.
@@ -86,17 +65,16 @@ fn cut_anew(
     onto_all(holes, counts, cut, period);
 }
 
-// With a place for the ends of each hole.
+// With a place for what each hole covers.
 fn reseam_with_room(
     first: &mut [f64],
     later: &mut [f64],
     holes: &mut [f64],
     counts: &[usize],
-    low: &mut [f64],
-    high: &mut [f64],
+    spans: &mut [Span],
     period: f64,
 )
-    requires { (length counts.now ≤ length low.old) × (length counts.now ≤ length high.old) }
+    requires { length counts.now ≤ length spans.old }
     ensures { face_in counts.now first.new later.new holes.new ≡ reseam period (face_in counts.now first.old later.old holes.old) }
 {
     let lo = least_u(first, later);
@@ -108,32 +86,27 @@ fn reseam_with_room(
         return;
     }
     let hi = lo + period;
-    let gap = gap_of(low, high, holes, counts, lo, hi);
+    let gap = gap_of(spans, holes, counts, lo, hi);
     if usable(gap, lo, hi) {
         cut_anew(first, later, holes, counts, gap.cut, period);
     }
 }
 
 // Where the rings make a strip, every hole brought onto it, and the rings cut anew where a hole lies
-// across the seam and leaves a gap. low and high are scratch for the holes' ends: where they are
-// shorter than the counts nothing is done.
+// across the seam and leaves a gap. spans is scratch for what the holes cover: where it is shorter than
+// the counts nothing is done.
 pub fn reseam(
     first: &mut [f64],
     later: &mut [f64],
     holes: &mut [f64],
     counts: &[usize],
-    low: &mut [f64],
-    high: &mut [f64],
+    spans: &mut [Span],
     period: f64,
 )
-    ensures { face_in counts.now first.new later.new holes.new ≡ reseam_within period counts.now (length low.old) (length high.old) (face_in counts.now first.old later.old holes.old) }
+    ensures { face_in counts.now first.new later.new holes.new ≡ reseam_within period counts.now (length spans.old) (face_in counts.now first.old later.old holes.old) }
 {
-    let n = counts.len();
-    if low.len() < n {
+    if spans.len() < counts.len() {
         return;
     }
-    if high.len() < n {
-        return;
-    }
-    reseam_with_room(first, later, holes, counts, low, high, period);
+    reseam_with_room(first, later, holes, counts, spans, period);
 }

@@ -24,7 +24,8 @@ use Rattle.rings.specs.Choices.{least_u, first_of, first_open_past, first_least,
 use Rattle.tables.specs.Moves.{unless_zero}
 use Rattle.rings.specs.Turns.{turned_unless, begin_ring_at, recut_at, turned_onto, align_at}
 use Rattle.rings.proofs.Lengths.{length-begin_ring_at, length-recut_at, length-align_at}
-use Rattle.seam.specs.Gap.{Span, span_of, insert, sorted, passed, gap_along, widest_gap}
+use Rattle.seam.specs.declared.gap.Span.{Span}
+use Rattle.seam.specs.Gap.{span_of, insert, sorted, passed, gap_along, widest_gap}
 use Rattle.seam.specs.declared.gap.Gap.{Gap}
 use Rattle.tables.specs.Corners.{Corner, Corners, us, move_u}
 use Rattle.bands.specs.Given.{Loop, Given}

@@ -1,3 +1,1 @@
-pub mod EachHole
-pub mod Spans
-pub mod Cuts
+pub mod Sorting

@@ -1,19 +1,16 @@
 -- Where `reseam` cuts anew: the middle of the widest stretch between the ends of the strip that no hole covers. What of a hole lies past the strip's end is not
 -- counted at its begin, as in the Rust.
-use Rattle.std.specs.Prelude.{ℕ, suc, Bool, cond, not, ◌||◌, eqb, Float, length}
-use mathlib.Core.List.{List, [], ◌∷◌, ◌++◌, map, foldl}
+use Rattle.std.specs.Prelude.{Bool, cond, not, ◌||◌, Float}
+use mathlib.Core.List.{List, [], ◌∷◌, ◌++◌, foldl}
 use Rattle.std.specs.Float.Ieee.{lt, le}
 use Rattle.numbers.specs.Constants.{plus_zero, half}
 use Rattle.numbers.specs.Order.{max_of}
 use Rattle.numbers.specs.Rounded.{◌⊕◌, ◌⊖◌, ◌⊗◌}
 use Rattle.loops.specs.Span.{least_of, greatest_of}
+use Rattle.seam.specs.declared.gap.Span.{Span}
 use Rattle.seam.specs.declared.gap.Gap.{Gap}
 
 -- what a hole covers
-pub record Span : Type 0 where
-  pub low : Float
-  pub high : Float
-
 abbrev pub span : Float → Float → Span
 span low high = record { low = low; high = high }
 
@@ -49,28 +46,3 @@ widest_gap lo hi spans = gap_along lo hi (sorted spans)
 -- whether it has a width and its middle lies inside the strip
 unfoldable pub usable : Float → Float → Gap → Bool
 usable lo hi g = not (le g.width plus_zero || (le g.cut lo || le hi g.cut))
-
--- ---- spans whose ends stand in two lists
-
-unfoldable pub spans_of : List Float → List Float → List Span
-spans_of [] highs = []
-spans_of (low ∷ lows) [] = []
-spans_of (low ∷ lows) (high ∷ highs) = span low high ∷ spans_of lows highs
-
-abbrev pub lows_of : List Span → List Float
-lows_of spans = map (λ (s : Span). s.low) spans
-
-abbrev pub highs_of : List Span → List Float
-highs_of spans = map (λ (s : Span). s.high) spans
-
--- the two lists in the order of the spans; lists of two lengths stay
-unfoldable pub sorted_lows : List Float → List Float → List Float
-sorted_lows lows highs = cond (eqb (length lows) (length highs)) (lows_of (sorted (spans_of lows highs))) lows
-
-unfoldable pub sorted_highs : List Float → List Float → List Float
-sorted_highs lows highs = cond (eqb (length lows) (length highs)) (highs_of (sorted (spans_of lows highs))) highs
-
--- how many at the front are below x
-unfoldable pub below : Float → List Float → ℕ
-below x [] = 0
-below x (l ∷ ls) = let further = suc (below x ls) in cond (lt l x) further 0

@@ -1,2 +1,1 @@
-pub mod Holes
 pub mod Gap

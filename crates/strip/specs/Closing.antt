@@ -1,5 +1,5 @@
 -- `close_strip` of face.rs: two rings become one closed loop of corners.
-use Rattle.std.specs.Prelude.{ℕ, ◌*◌, min, Bool, cond, List, leb, Float, length}
+use Rattle.std.specs.Prelude.{ℕ, ◌*◌, min, Bool, cond, List, leb, Float, length, Result, Ok, Err}
 use Rattle.numbers.specs.declared.math.Vec3.{Vec3}
 use Rattle.lists.specs.Placed.{placed}
 use Rattle.loops.specs.Area.{area_of}
@@ -8,16 +8,20 @@ use Rattle.tables.specs.Corners.{Corner, Corners, us, vs}
 use Rattle.tables.specs.Rows.{rows}
 use Rattle.bands.specs.Strip.{Setting, strip}
 use Rattle.strip.specs.Count.{capped}
-use Rattle.strip.specs.declared.closing.Closing.{Closing}
-use Rattle.strip.specs.declared.closing.Closing.TheVariants.{Closed, TooMany}
+use Rattle.strip.specs.declared.closing.Closed.{Closed}
+use Rattle.strip.specs.declared.closing.TooMany.{TooMany}
 
 -- how many corners the wall's table and the result's have room for: a strip has its wall twice
 abbrev pub room_for : List Float → List Float → ℕ
 room_for wall out = min (2 * length (rows wall)) (length (rows out))
 
 -- how many corners a loop has, and the area they enclose in u and v
-abbrev pub closed_as : Corners Vec3 → Closing
-closed_as band = Closed (length band) (area_of (us band) (vs band))
+abbrev pub closed_as : Corners Vec3 → Closed
+closed_as band = record { count = length band; area = area_of (us band) (vs band) }
+
+-- there is no room for a strip of n corners
+abbrev pub no_room : ℕ → TooMany
+no_room n = record { corners = capped n }
 
 -- corners are compared by their positions
 abbrev pub same_corner : Setting Vec3 → Corner Vec3 → Corner Vec3 → Bool
@@ -30,8 +34,8 @@ module _ (S : Setting Vec3) (lower upper : Corners Vec3) where
 
   -- The answer: how many corners the band has, and its area. Where the strip has more corners than there is room for, how many those are "before
   -- repeats are dropped" (01, refusal 12).
-  unfoldable pub closing_of : ℕ → Closing
-  closing_of room = let corners = length (strip S lower upper) in cond (leb corners room) (closed_as band_between) (TooMany (capped corners))
+  unfoldable pub closing_of : ℕ → Result Closed TooMany
+  closing_of room = let corners = length (strip S lower upper) in cond (leb corners room) (Ok (closed_as band_between)) (Err (no_room corners))
 
   -- What the result's table then holds, where it held `old`: the strip less successive repeats, of which the band is the front; and `old` where the
   -- strip has no room.

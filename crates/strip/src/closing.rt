@@ -18,12 +18,18 @@ use surfaces::surface::Surface;
 use tables::corners::{count, put_corner};
 use tables::slices::shorter;
 
+// How many corners are left, and the area they enclose in u and v.
 #[derive(Clone, Copy)]
-pub enum Closing {
-    // How many corners are left, and the area they enclose in u and v.
-    Closed { count: usize, area: f64 },
-    // How many corners the strip has before its repeats are dropped; usize::MAX where there are more.
-    TooMany(usize),
+pub struct Closed {
+    pub count: usize,
+    pub area: f64,
+}
+
+// There is no room for the strip: how many corners it has before its repeats are dropped; usize::MAX
+// where there are more.
+#[derive(Clone, Copy)]
+pub struct TooMany {
+    pub corners: usize,
 }
 
 // The first pass over a strip of n corners: stores those that differ from the one kept before them,
@@ -45,10 +51,8 @@ fn keep_successive(
     }
     let mut last = strip_corner(lower, upper, wall, period, 0);
     let mut m = 0;
-    let mut i = 1;
-    while i < n {
+    for i in 1..n {
         let next = strip_corner(lower, upper, wall, period, i);
-        i += 1;
         if !repeated_by(last, next) {
             put_corner(out, m, last);
             m += 1;
@@ -68,15 +72,15 @@ fn close_rows(
     period: f64,
     n: usize,
     out: &mut [f64],
-) -> Closing
+) -> Closed
     requires { (n ≡ length (strip_with period (rows lower.now) (rows upper.now) (rows wall.now))) × (n ≤ length (rows out.old)) }
     ensures value { result ≡ closed_as (drop_repeats same_at (strip_with period (rows lower.now) (rows upper.now) (rows wall.now))) }
     ensures out_after { rows out.new ≡ placed 0 (drop_successive same_at keep (strip_with period (rows lower.now) (rows upper.now) (rows wall.now))) (rows out.old) }
 {
     let m = keep_successive(lower, upper, wall, period, n, out);
-    let kept = trim(first_rows(out, m));
-    let area = signed_area(first_rows(out, kept));
-    Closing::Closed { count: kept, area }
+    let count = trim(first_rows(out, m));
+    let area = signed_area(first_rows(out, count));
+    Closed { count, area }
 }
 
 // The band between a lower and an upper ring in the front of `out`: how many corners it has, and
@@ -91,15 +95,15 @@ pub fn close_strip(
     period: f64,
     wall: &mut [f64],
     out: &mut [f64],
-) -> Closing
+) -> Result<Closed, TooMany>
     ensures value { (sense : Bool) → result ≡ closing_of (setting_of frame surface options period sense) (rows lower.now) (rows upper.now) (room_for wall.old out.old) }
     ensures out_after { (sense : Bool) → rows out.new ≡ closed_into (setting_of frame surface options period sense) (rows lower.now) (rows upper.now) (room_for wall.old out.old) (rows out.old) }
 {
     let inner = inner_between(lower, upper, surface, options);
     let n = strip_rows(lower, upper, inner);
     if shorter(2 * count(wall), count(out)) < n {
-        return Closing::TooMany(n);
+        return Err(TooMany { corners: n });
     }
     raise_wall(wall, lower, upper, frame, surface, options);
-    close_rows(lower, upper, first_rows(wall, inner), period, n, out)
+    Ok(close_rows(lower, upper, first_rows(wall, inner), period, n, out))
 }

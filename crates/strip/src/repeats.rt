@@ -20,6 +20,8 @@ pub fn trim(t: &[f64]) -> usize
     ensures { result ≡ length (drop_trailing same_at keep (rows t.now)) }
 {
     let first = corner_at(t, 0);
+
+    // A for from the last row down to the fourth would have to say apart how many stay where all go.
     let mut r = count(t);
     while 3 < r {
         let end = r - 1;

@@ -69,9 +69,7 @@ fn spread(wall: &mut [f64], frame: Frame, surface: Surface, u: f64, n: usize)
     requires { n ≤ length (rows wall.old) }
     ensures { rows wall.new ≡ placed 0 (map (row_on frame surface u) (take n wall.old)) (rows wall.old) }
 {
-    let mut i = n;
-    while 0 < i {
-        i -= 1;
+    for i in (0..n).rev() {
         let v = wall[i];
         let at = surface.point_at(frame, Vec2 { u, v });
         put_corner(wall, i, Corner { u, v, at });

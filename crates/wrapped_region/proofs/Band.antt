@@ -1,16 +1,13 @@
 -- What `close_ordered` closes is the band of bands/specs/Band.antt, where its two rings are those that are joined there.
-use Rattle.std.proofs.Common.{◌≡◌, ℕ, ◌<◌, ◌≤◌, Bool, true, false, cond, not, leb, map, length, take, refl, ◌∙◌, le-leb}
+use Rattle.std.proofs.Common.{◌≡◌, ℕ, Ok, Err, ◌<◌, ◌≤◌, Bool, true, false, cond, not, leb, map, length, take, refl, ◌∙◌, le-leb}
 use borrow.Author.Tests.{lt-leb}
 use Rattle.numbers.specs.declared.math.Vec3.{Vec3}
-use Rattle.loops.specs.Area.{area_of}
-use Rattle.tables.specs.Corners.{Corners, us, vs, move_v}
+use Rattle.tables.specs.Corners.{Corners, move_v}
 use Rattle.bands.specs.Given.{Given}
 use Rattle.bands.specs.Rings.{Face}
 use Rattle.bands.specs.Strip.{Setting, strip}
 use Rattle.bands.specs.Band.{first_is_lower, lift, mean_v, goes_with, joined, lower_first, lower_ring, upper_ring, strip_of, outer}
-use Rattle.strip.specs.Closing.{band_between, closing_of, closed_into}
-use Rattle.strip.specs.Count.{capped}
-use Rattle.strip.specs.declared.closing.Closing.TheVariants.{Closed, TooMany}
+use Rattle.strip.specs.Closing.{closed_as, no_room, band_between, closing_of, closed_into}
 use Rattle.strip.proofs.closing.Laws.{band_closed}
 use Rattle.wrapped_region.specs.Ordered.{first_lower, lower_of, upper_of}
 
@@ -57,16 +54,16 @@ module _ (S : Setting Vec3) (given : Given Vec3) (face : Face Vec3) (first_is : 
 
   module _ (room : ℕ) where
     pub closing_is : closing_of S (lower_of S with₁ with₂ face) (upper_of S with₁ with₂ face) room
-        ≡ cond (leb (length (strip_of S given)) room) (Closed (length (outer S given)) (area_of (us (outer S given)) (vs (outer S given)))) (TooMany (capped (length (strip_of S given))))
+        ≡ cond (leb (length (strip_of S given)) room) (Ok (closed_as (outer S given))) (Err (no_room (length (strip_of S given))))
     unfolding closing_of
     closing_is =
-        λ i. cond (leb (length (same-strip i)) room) (Closed (length (same-band i)) (area_of (us (same-band i)) (vs (same-band i)))) (TooMany (capped (length (same-strip i))))
+        λ i. cond (leb (length (same-strip i)) room) (Ok (closed_as (same-band i))) (Err (no_room (length (same-strip i))))
 
     pub closes : length (strip_of S given) ≤ room
-        → closing_of S (lower_of S with₁ with₂ face) (upper_of S with₁ with₂ face) room ≡ Closed (length (outer S given)) (area_of (us (outer S given)) (vs (outer S given)))
+        → closing_of S (lower_of S with₁ with₂ face) (upper_of S with₁ with₂ face) room ≡ Ok (closed_as (outer S given))
     closes h = closing_is ∙ rw (le-leb (length (strip_of S given)) room h)
 
-    pub too_many : room < length (strip_of S given) → closing_of S (lower_of S with₁ with₂ face) (upper_of S with₁ with₂ face) room ≡ TooMany (capped (length (strip_of S given)))
+    pub too_many : room < length (strip_of S given) → closing_of S (lower_of S with₁ with₂ face) (upper_of S with₁ with₂ face) room ≡ Err (no_room (length (strip_of S given)))
     too_many h = closing_is ∙ rw (lt-leb (length (strip_of S given)) room h)
 
     -- the band in front of the result's table, which held `old` and now holds `out`

@@ -12,7 +12,7 @@ ghost use Rattle.wrapped_region.specs.Rings.{rings_of};
 use super::mean::mean_v;
 use super::order::{crosses, first_is_lower};
 use numbers::math::Frame;
-use strip::closing::{Closing, close_strip};
+use strip::closing::{Closed, TooMany, close_strip};
 use surfaces::options::Resolved;
 use surfaces::surface::{Period, Surface};
 use tables::moves::{Move, move_v};
@@ -42,7 +42,7 @@ fn close_between(
     period: f64,
     wall: &mut [f64],
     out: &mut [f64],
-) -> Closing
+) -> Result<Closed, TooMany>
     ensures value { (sense : Bool) → result ≡ closing_of (setting_of frame surface options period sense) (rows lower.now) (map (move_v (lifted_by (v_period surface) crosses)) (rows upper.old)) (room_for wall.old out.old) }
     ensures out_after { (sense : Bool) → rows out.new ≡ closed_into (setting_of frame surface options period sense) (rows lower.now) (map (move_v (lifted_by (v_period surface) crosses)) (rows upper.old)) (room_for wall.old out.old) (rows out.old) }
     ensures upper_after { rows upper.new ≡ map (move_v (lifted_by (v_period surface) crosses)) (rows upper.old) }
@@ -65,7 +65,7 @@ pub fn close_ordered(
     period: f64,
     wall: &mut [f64],
     out: &mut [f64],
-) -> Closing
+) -> Result<Closed, TooMany>
     ensures value { (sense : Bool) → result ≡ closing_of (setting_of frame surface options period sense) (lower_of (setting_of frame surface options period sense) with1 with2 (rings_of first.old later.old)) (upper_of (setting_of frame surface options period sense) with1 with2 (rings_of first.old later.old)) (room_for wall.old out.old) }
     ensures out_after { (sense : Bool) → rows out.new ≡ closed_into (setting_of frame surface options period sense) (lower_of (setting_of frame surface options period sense) with1 with2 (rings_of first.old later.old)) (upper_of (setting_of frame surface options period sense) with1 with2 (rings_of first.old later.old)) (room_for wall.old out.old) (rows out.old) }
     ensures first_after { (sense : Bool) → rows first.new ≡ (if first_lower (setting_of frame surface options period sense) with1 with2 (rings_of first.old later.old) then rows first.old else upper_of (setting_of frame surface options period sense) with1 with2 (rings_of first.old later.old)) }

@@ -1,26 +1,27 @@
 use native.Mathlib.Omega.{arith}
+use borrow.Author.Rules.{rules}
 use Rattle.filling.proofs.Taken.{room_in}
 use Rattle.filling.proofs.Finding.{areas-put, face_of_lem}
 use Rattle.filling.proofs.Banded.{filled_short, filled_long}
 use Rattle.filling.proofs.fill_band.Goals as goal
 
-pub returns-in-Closed : goal.returns-in-Closed
-returns-in-Closed c = λ s acc two given_is corners_are loops_are wraps_are areas_are surface_is frame_is options_are sense_is.
+pub returns-in-Ok : goal.returns-in-Ok
+returns-in-Ok c = λ s acc two given_is corners_are loops_are wraps_are areas_are surface_is frame_is options_are sense_is.
     let a = c.args in
     let f = face_of_lem s a.corners.now a.given.now a.loops a.wraps.now a.frame a.surface a.options a.sense c.last_wrapping.result
     c.first_wrapping.result _ _
     acc two given_is corners_are loops_are wraps_are surface_is frame_is options_are sense_is c.last_wrapping.ensures c.number_of-a.ensures
     c.first_wrapping.ensures c.number_of-b.ensures in
-    filled_short _ _ _ _ _ _ _ _ _ _ f _ _ _ (c.band_of-closing.ensures s f (room_in _ (omega arith))) _ _ c.in-Closed.is (omega arith)
+    filled_short _ _ _ _ _ _ _ _ _ _ f _ _ _ (c.band_of-closing.ensures s f (room_in _ (omega arith))) _ c.in-Ok.is (omega arith)
     (omega (arith, c.holes-2-1.given))
-    _ a.counts.now _ a.areas.now _ _ c.pick_counts-arg-1.given.0.1 c.pick_areas-arg-1.given.0.1
-    c.copy_rows.ensures c.pick_counts.ensures (areas-put _ _ _ _ _ _ areas_are c.pick_areas.ensures) c.loops_left.ensures
+    _ a.counts.now _ a.areas.now _ _ (search rules) (search rules)
+    c.copy_rows.ensures c.pick.ensures (areas-put _ _ _ _ _ _ areas_are c.pick-in-Ok.ensures) c.loops_left.ensures
 
-pub returns-in-TooMany : goal.returns-in-TooMany
-returns-in-TooMany c = λ s acc two given_is corners_are loops_are wraps_are areas_are surface_is frame_is options_are sense_is.
+pub returns-in-Err : goal.returns-in-Err
+returns-in-Err c = λ s acc two given_is corners_are loops_are wraps_are areas_are surface_is frame_is options_are sense_is.
     let a = c.args in
     let f = face_of_lem s a.corners.now a.given.now a.loops a.wraps.now a.frame a.surface a.options a.sense c.last_wrapping.result
     c.first_wrapping.result _ _
     acc two given_is corners_are loops_are wraps_are surface_is frame_is options_are sense_is c.last_wrapping.ensures c.number_of-a.ensures
     c.first_wrapping.ensures c.number_of-b.ensures in
-    filled_long _ _ _ _ _ _ _ _ _ _ f _ _ _ (c.band_of-closing.ensures s f (room_in _ (omega arith))) _ _ _ c.in-TooMany.is
+    filled_long _ _ _ _ _ _ _ _ _ _ f _ _ _ (c.band_of-closing.ensures s f (room_in _ (omega arith))) _ _ _ c.in-Err.is

@@ -1,11 +1,11 @@
 -- One value of each loop but the two rings, put one behind the other.
 use Prim.Native.Nat.{ℕ, suc, ◌+◌, ◌≤◌, ◌<◌}
 use mathlib.Core.Path.{◌≡◌, refl, sym, ap, ◌∙◌}
-use mathlib.Core.Bool.{Bool, true, false, cond, not}
+use mathlib.Core.Bool.{Bool, true, false, cond}
 use mathlib.Core.List.{List, ◌∷◌}
 use native.Mathlib.Numerals.{add-one}
 use native.Mathlib.Omega.{arith}
-use borrow.Author.Tests.{not-true, not-false, leb-true, leb-false}
+use borrow.Author.Tests.{leb-true, leb-false}
 use lib.Dec.{leb}
 use lib.ListN.{length, get_or, drop, set, length-drop}
 use lib.Seq.{drop-cons}
@@ -36,22 +36,23 @@ module _ {A : Type 0} where
   module _ (src : List A) (a b : ℕ) where
     -- after i loops, of which k are holes
     pub record Passing (k i : ℕ) : Type 0 where
+      pub few : k ≤ i
       pub rest : drop k (others a b src) ≡ others_from a b i (drop i src)
       pub within : k ≤ length (others a b src)
 
     pub passing : Passing 0 0
-    passing = record { rest = refl; within = omega arith }
+    passing = record { few = omega arith; rest = refl; within = omega arith }
 
     module _ (z : A) (k i : ℕ) (p : Passing k i) (h : i < length src) (t : Bool) (t_is : t ≡ is_ring a b i) where
       next : (s : Bool) → t ≡ s → drop k (others a b src) ≡ cond s (others_from a b (suc i) (drop (suc i) src)) (get_or src i z ∷ others_from a b (suc i) (drop (suc i) src))
       next s e = p.rest ∙ ap (others_from a b i) (drop-cons src i z h) ∙ others-first a b i (get_or src i z) (drop (suc i) src) s (sym t_is ∙ e)
 
-      pub passing-ring : not t ≡ false → Passing k (i + 1)
-      passing-ring n = rw (add-one i) record { rest = next true (not-false t n); within = p.within }
+      pub passing-ring : t ≡ true → Passing k (i + 1)
+      passing-ring n = rw (add-one i) record { few = let f = p.few in omega arith; rest = next true n; within = p.within }
 
-      module _ (n : not t ≡ true) where
+      module _ (n : t ≡ false) where
         hole : (k < length (others a b src)) × ((get_or src i z ≡ get_or (others a b src) k z) × (drop (suc k) (others a b src) ≡ others_from a b (suc i) (drop (suc i) src)))
-        hole = first_left k (others a b src) (others_from a b (suc i) (drop (suc i) src)) (get_or src i z) z (next false (not-true t n))
+        hole = first_left k (others a b src) (others_from a b (suc i) (drop (suc i) src)) (get_or src i z) z (next false n)
 
         pub hole_within : k < length (others a b src)
         hole_within = hole.0
@@ -60,7 +61,7 @@ module _ {A : Type 0} where
         hole_is = hole.1.0
 
         pub passing-hole : Passing (k + 1) (i + 1)
-        passing-hole = rw (add-one i) (rw (add-one k) record { rest = hole.1.1; within = hole.0 })
+        passing-hole = rw (add-one i) (rw (add-one k) record { few = let f = p.few in omega arith; rest = hole.1.1; within = hole.0 })
 
     pub passing-end : (k i : ℕ) → Passing k i → length src ≤ i → k ≡ length (others a b src)
     passing-end k i p e =
@@ -72,22 +73,21 @@ module _ {A : Type 0} where
 -- ---- how many there are
 
 module _ (n a b : ℕ) where
-  pub record Counting (k i : ℕ) : Type 0 where
-    pub few : k ≤ i
-    pub pass : Passing (places n) a b k i
+  abbrev pub Counting : ℕ → ℕ → Type 0
+  Counting k i = Passing (places n) a b k i
 
   pub counting : Counting 0 0
-  counting = record { few = omega arith; pass = passing (places n) a b }
+  counting = passing (places n) a b
 
   module _ (k i : ℕ) (c : Counting k i) (h : i < n) (t : Bool) (t_is : t ≡ is_ring a b i) where
-    pub counting_ring : not t ≡ false → Counting k (i + 1)
-    counting_ring r = record { few = let f = c.few in omega arith; pass = passing-ring (places n) a b 0 k i c.pass (omega (arith, length-places n)) t t_is r }
+    pub counting_ring : t ≡ true → Counting k (i + 1)
+    counting_ring r = passing-ring (places n) a b 0 k i c (omega (arith, length-places n)) t t_is r
 
-    pub counting_hole : not t ≡ true → Counting (k + 1) (i + 1)
-    counting_hole r = record { few = let f = c.few in omega arith; pass = passing-hole (places n) a b 0 k i c.pass (omega (arith, length-places n)) t t_is r }
+    pub counting_hole : t ≡ false → Counting (k + 1) (i + 1)
+    counting_hole r = passing-hole (places n) a b 0 k i c (omega (arith, length-places n)) t t_is r
 
   pub counting_end : (k i : ℕ) → Counting k i → n ≤ i → k ≡ length (others a b (places n))
-  counting_end k i c h = passing-end (places n) a b k i c.pass (omega (arith, length-places n))
+  counting_end k i c h = passing-end (places n) a b k i c (omega (arith, length-places n))
 
 -- ---- picked
 
@@ -100,23 +100,23 @@ module _ {A : Type 0} (at : ℕ) (src : List A) (a b : ℕ) (d₀ : List A) wher
     holes_are : m ≡ length (others a b src)
     holes_are = m_is ∙ others_as_many a b 0 (places (length src)) src (length-places (length src))
 
-    pub picking_none : not fits ≡ true → d₀ ≡ placed at (others a b src) d₀
+    pub picking_none : fits ≡ false → d₀ ≡ placed at (others a b src) d₀
     picking_none n =
         let e = holes_are in
-        let more : length d₀ < at + m = leb-false (at + m) (length d₀) (sym fits_is ∙ not-true fits n) in
+        let more : length d₀ < at + m = leb-false (at + m) (length d₀) (sym fits_is ∙ n) in
         sym (placed_short at (others a b src) d₀ (omega arith))
 
-    pub picking : not fits ≡ false → Picking d₀ 0 0
+    pub picking : fits ≡ true → Picking d₀ 0 0
     picking n =
         let e = holes_are in
-        let room : at + m ≤ length d₀ = leb-true (at + m) (length d₀) (sym fits_is ∙ not-false fits n) in
+        let room : at + m ≤ length d₀ = leb-true (at + m) (length d₀) (sym fits_is ∙ n) in
         record { fill = filling at (others a b src) d₀ (omega arith); pass = passing src a b }
 
   module _ (z : A) (d : List A) (k i : ℕ) (p : Picking d k i) (h : i < length src) (t : Bool) (t_is : t ≡ is_ring a b i) where
-    pub picking_ring : not t ≡ false → Picking d k (i + 1)
+    pub picking_ring : t ≡ true → Picking d k (i + 1)
     picking_ring n = record { fill = p.fill; pass = passing-ring src a b z k i p.pass h t t_is n }
 
-    module _ (n : not t ≡ true) where
+    module _ (n : t ≡ false) where
       pub picking_room : (at + k < length d) × (length d ≡ length d₀)
       picking_room = let f = p.fill.room in let l = p.fill.long in let w = hole_within src a b z k i p.pass h t t_is n in (omega arith, l)
 

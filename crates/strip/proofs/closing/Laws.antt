@@ -24,11 +24,12 @@ use Rattle.tables.specs.Corners.{Corners, us, vs}
 use Rattle.tables.specs.Rows.{none}
 use Rattle.bands.specs.Columns.{heights_on, setting_of}
 use Rattle.bands.specs.Strip.{Setting, strip, wall}
-use Rattle.strip.specs.Closing.{closed_as, same_corner, band_between, closing_of, closed_into}
+use Rattle.std.specs.Prelude.{Result, Ok, Err}
+use Rattle.strip.specs.Closing.{closed_as, no_room, same_corner, band_between, closing_of, closed_into}
 use Rattle.strip.specs.Corners.{same_at, at_u, far_side, row_on, heights_between, wall_between, strip_with}
 use Rattle.strip.specs.Count.{capped, strip_count}
-use Rattle.strip.specs.declared.closing.Closing.{Closing}
-use Rattle.strip.specs.declared.closing.Closing.TheVariants.{Closed, TooMany}
+use Rattle.strip.specs.declared.closing.Closed.{Closed}
+use Rattle.strip.specs.declared.closing.TooMany.{TooMany}
 use Rattle.strip.proofs.corners.Laws.{length-strip}
 use Rattle.strip.proofs.repeats.Laws.{successive_fewer}
 
@@ -57,13 +58,13 @@ module _ {A : Type 0} (same : A → A → Bool) (strip : List A) where
 module _ (strip : Corners Vec3) (old now front band : Corners Vec3) (n m k : ℕ) (area : Float) where
   pub closed_as_lem : n ≡ length strip → n ≤ length old → m ≡ length (drop_successive same_at keep strip) → now ≡ placed 0 (drop_successive same_at keep strip) old
       → front ≡ take m now → k ≡ length (drop_trailing same_at keep front) → band ≡ take k now → area ≡ area_of (us band) (vs band)
-      → Closed k area ≡ closed_as (drop_repeats same_at strip)
+      → record { count = k; area = area } ≡ closed_as (drop_repeats same_at strip)
   unfolding drop_merging
   closed_as_lem all room count is Front-at kept band-at area_is =
       let few : length strip ≤ length old = omega arith in
       let k_is : k ≡ length (drop_repeats same_at strip) = kept ∙ ap (λ (l : Corners Vec3). length (drop_trailing same_at keep l)) (Front-at ∙ front_is same_at strip old now m count few is) in
       let band-is : band ≡ drop_repeats same_at strip = band-at ∙ ap (λ (j : ℕ). take j now) k_is ∙ band_in_front same_at strip old now few is in
-      λ i. Closed (k_is i) ((area_is ∙ ap (λ (l : Corners Vec3). area_of (us l) (vs l)) band-is) i)
+      λ i. record { count = k_is i; area = (area_is ∙ ap (λ (l : Corners Vec3). area_of (us l) (vs l)) band-is) i }
 
 -- ---- `close_strip`
 
@@ -77,32 +78,32 @@ module _ (S : Setting Vec3) (lower upper : Corners Vec3) (room : ℕ) where
       (is ∙ ap (λ (t : Bool). cond t (placed 0 (drop_successive (same_corner S) keep (strip S lower upper)) old) old) (le-leb (length (strip S lower upper)) room fits))
 
   -- and that it is there, where the answer is no refusal
-  pub closed-fits : (k : ℕ) (area : Float) → Closed k area ≡ closing_of S lower upper room → (length (strip S lower upper) ≤ room) × (k ≡ length (band_between S lower upper))
+  pub closed-fits : (c : Closed) → Ok c ≡ closing_of S lower upper room → (length (strip S lower upper) ≤ room) × (c ≡ closed_as (band_between S lower upper))
   unfolding closing_of
-  closed-fits k area e = by_room (dec_le (length (strip S lower upper)) room)
+  closed-fits c e = by_room (dec_le (length (strip S lower upper)) room)
     where
-      by_room : Dec (length (strip S lower upper) ≤ room) → (length (strip S lower upper) ≤ room) × (k ≡ length (band_between S lower upper))
+      by_room : Dec (length (strip S lower upper) ≤ room) → (length (strip S lower upper) ≤ room) × (c ≡ closed_as (band_between S lower upper))
       by_room (yes h) =
-          let is : Closed k area ≡ closed_as (band_between S lower upper) = e ∙ rw (le-leb (length (strip S lower upper)) room h) in
+          let is : ◌≡◌ {A = Result Closed TooMany} (Ok c) (Ok (closed_as (band_between S lower upper))) = e ∙ rw (le-leb (length (strip S lower upper)) room h) in
           (h, cc)
       by_room (no h) =
-          let is : Closed k area ≡ TooMany (capped (length (strip S lower upper))) = e ∙ rw (lt-leb (length (strip S lower upper)) room (omega arith)) in
+          let is : Ok c ≡ Err (no_room (length (strip S lower upper))) = e ∙ rw (lt-leb (length (strip S lower upper)) room (omega arith)) in
           let z : ◌≡◌ {A = ℕ} 0 1 = cc in
           absurd (omega arith)
 
   pub too_many : (n : ℕ) (old : Corners Vec3) → n ≡ capped (length (strip S lower upper)) → room < n
-      → (TooMany n ≡ closing_of S lower upper room) × (old ≡ closed_into S lower upper room old)
+      → (Err (record { corners = n }) ≡ closing_of S lower upper room) × (old ≡ closed_into S lower upper room old)
   unfolding closing_of closed_into
   too_many n old e h =
       let more : leb (length (strip S lower upper)) room ≡ false = lt-leb (length (strip S lower upper)) room (omega arith) in
-      (sym (rw more (ap TooMany (sym e))), sym (rw more))
+      (sym (rw more (ap (λ (k : ℕ). Err (record { corners = k })) (sym e))), sym (rw more))
 
-  pub fits : (old now : Corners Vec3) (r : Closing) → length (strip S lower upper) ≤ room → r ≡ closed_as (drop_repeats (same_corner S) (strip S lower upper))
-      → now ≡ placed 0 (drop_successive (same_corner S) keep (strip S lower upper)) old → (r ≡ closing_of S lower upper room) × (now ≡ closed_into S lower upper room old)
+  pub fits : (old now : Corners Vec3) (r : Closed) → length (strip S lower upper) ≤ room → r ≡ closed_as (drop_repeats (same_corner S) (strip S lower upper))
+      → now ≡ placed 0 (drop_successive (same_corner S) keep (strip S lower upper)) old → (Ok r ≡ closing_of S lower upper room) × (now ≡ closed_into S lower upper room old)
   unfolding closing_of closed_into band_between
   fits old now r h a b =
       let enough : leb (length (strip S lower upper)) room ≡ true = le-leb (length (strip S lower upper)) room h in
-      (a ∙ sym (rw enough), b ∙ sym (rw enough))
+      (ap Ok a ∙ sym (rw enough), b ∙ sym (rw enough))
 
 round : {A : Type 0} (p q r s : List A) (c₁ c₂ : A) → p ++ (c₁ ∷ q) ++ (c₂ ∷ r) ++ s ≡ p ++ (c₁ ∷ (q ++ (c₂ ∷ (r ++ s))))
 round p q r s c₁ c₂ = simp append_assoc
@@ -162,11 +163,11 @@ module _ (frame : Frame) (surface : Surface) (options : Resolved) (period : Floa
         same-room : room ≡ lent
         same-room = let p = b_is.0 in omega arith
 
-        pub strip_too_many : room < n → ((sense : Bool) → TooMany n ≡ closing_of (setting_of frame surface options period sense) lower upper lent)
+        pub strip_too_many : room < n → ((sense : Bool) → Err (record { corners = n }) ≡ closing_of (setting_of frame surface options period sense) lower upper lent)
             × ((sense : Bool) → old ≡ closed_into (setting_of frame surface options period sense) lower upper lent old)
         strip_too_many h = (λ sense. (both sense).0, λ sense. (both sense).1)
           where
-            both : (sense : Bool) → (TooMany n ≡ closing_of (setting_of frame surface options period sense) lower upper lent)
+            both : (sense : Bool) → (Err (record { corners = n }) ≡ closing_of (setting_of frame surface options period sense) lower upper lent)
                 × (old ≡ closed_into (setting_of frame surface options period sense) lower upper lent old)
             both sense =
                 too_many (setting_of frame surface options period sense) lower upper lent n old (laid-count ∙ ap (λ (l : Corners Vec3). capped (length l)) (sym (strip_is sense lower upper)))
@@ -187,16 +188,16 @@ module _ (frame : Frame) (surface : Surface) (options : Resolved) (period : Floa
           rows_require =
               (count ∙ ap (λ (l : Corners Vec3). length (strip_with period lower upper l)) (sym rows_are), let p = b_is.0 in omega arith)
 
-          module _ (now : Corners Vec3) (r : Closing) (r_is : r ≡ closed_as (drop_repeats same_at (strip_with period lower upper w)))
+          module _ (now : Corners Vec3) (r : Closed) (r_is : r ≡ closed_as (drop_repeats same_at (strip_with period lower upper w)))
               (now_is : now ≡ placed 0 (drop_successive same_at keep (strip_with period lower upper w)) old) where
-            pub strip-fits : ((sense : Bool) → r ≡ closing_of (setting_of frame surface options period sense) lower upper lent)
+            pub strip-fits : ((sense : Bool) → Ok r ≡ closing_of (setting_of frame surface options period sense) lower upper lent)
                 × ((sense : Bool) → now ≡ closed_into (setting_of frame surface options period sense) lower upper lent old)
             strip-fits = (λ sense. (both sense).0, λ sense. (both sense).1)
               where
                 same-strip : (sense : Bool) → strip_with period lower upper w ≡ strip (setting_of frame surface options period sense) lower upper
                 same-strip sense = ap (strip_with period lower upper) rows_are ∙ sym (strip_is sense lower upper)
 
-                both : (sense : Bool) → (r ≡ closing_of (setting_of frame surface options period sense) lower upper lent)
+                both : (sense : Bool) → (Ok r ≡ closing_of (setting_of frame surface options period sense) lower upper lent)
                     × (now ≡ closed_into (setting_of frame surface options period sense) lower upper lent old)
                 both sense =
                     let e = same-strip sense in

@@ -1,12 +1,11 @@
 -- The fold that drops repeats, and the trailing pass.
 use Prim.Native.Nat.{ℕ, ◌+◌, ◌-◌, ◌≤◌, ◌<◌}
 use mathlib.Core.Path.{◌≡◌, refl, sym, ap, ◌∙◌}
-use mathlib.Core.Bool.{Bool, true, false, not, cond}
+use mathlib.Core.Bool.{Bool, true, false, cond}
 use mathlib.Core.List.{List, [], ◌∷◌, ◌++◌}
 use native.Mathlib.Nat.{not-suc-le-zero}
 use native.Mathlib.Numerals.{add-one}
 use native.Mathlib.Omega.{arith}
-use borrow.Author.Tests.{not-true, not-false}
 use lib.Ieee.{Float}
 use lib.ListN.{length, get_or, set, take, drop, length-append, drop_of_length-le}
 use lib.Seq.{append_snoc, drop-cons, take-length, length-take-le}
@@ -117,7 +116,7 @@ module _ (xs : Corners Vec3) (n : ℕ) (t₀ : List Float) where
 
   module _ (t : List Float) (last next : Corner Vec3) (m i : ℕ) (b : Bool) (f : Folding t last m i) (h : i < n)
       (next_is : next ≡ get_or xs i none) (told : b ≡ same_at last next) where
-    pub fold_repeat : not b ≡ false → Folding t last m (i + 1)
+    pub fold_repeat : b ≡ true → Folding t last m (i + 1)
     fold_repeat e = record {
       done = f.done;
       all = f.all;
@@ -125,12 +124,12 @@ module _ (xs : Corners Vec3) (n : ℕ) (t₀ : List Float) where
       far = omega arith;
       few = let w = f.few in omega arith;
       count = f.count;
-      sweep = sweep_repeat same_at keep none xs f.done last next i f.sweep (let c = f.all in omega arith) next_is (sym told ∙ not-false b e);
+      sweep = sweep_repeat same_at keep none xs f.done last next i f.sweep (let c = f.all in omega arith) next_is (sym told ∙ e);
       is = f.is;
       long = f.long;
     }
 
-    pub fold_other : (t' : List Float) → not b ≡ true → rows t' ≡ set (rows t) m last → length t' ≡ length t → Folding t' next (m + 1) (i + 1)
+    pub fold_other : (t' : List Float) → b ≡ false → rows t' ≡ set (rows t) m last → length t' ≡ length t → Folding t' next (m + 1) (i + 1)
     fold_other t' e put l =
         let w = f.few in
         let c = f.all in
@@ -142,7 +141,7 @@ module _ (xs : Corners Vec3) (n : ℕ) (t₀ : List Float) where
           far = omega arith;
           few = omega arith;
           count = length-append f.done (last ∷ []) ∙ ap (λ (k : ℕ). k + 1) f.count;
-          sweep = sweep_other same_at keep none xs f.done last next i f.sweep (omega arith) next_is (sym told ∙ not-true b e);
+          sweep = sweep_other same_at keep none xs f.done last next i f.sweep (omega arith) next_is (sym told ∙ e);
           is = put ∙ ap (λ (d : Corners Vec3). set d m last) f.is ∙ placed_grows f.done (rows t₀) m last f.count (omega arith);
           long = l ∙ f.long;
         }
@@ -180,14 +179,14 @@ module _ (ws : Corners Vec3) where
         trailing_step same_at none ws r h w.far
         ∙ ap (λ (t : Bool). cond t (drop_trailing same_at keep (take (r - 1) ws)) (take r ws)) (sym (told ∙ (λ i. same_at (first_is i) (end_is i))))
 
-    pub trim_again : not b ≡ false → Trimming (r - 1)
+    pub trim_again : b ≡ true → Trimming (r - 1)
     trim_again t = record {
       far = let c = w.far in omega arith;
-      is = w.is ∙ step ∙ ap (λ (t : Bool). cond t (drop_trailing same_at keep (take (r - 1) ws)) (take r ws)) (not-false b t);
+      is = w.is ∙ step ∙ ap (λ (t : Bool). cond t (drop_trailing same_at keep (take (r - 1) ws)) (take r ws)) t;
     }
 
-    pub trim_stop : not b ≡ true → r ≡ length (drop_trailing same_at keep ws)
-    trim_stop t = stays r w (step ∙ ap (λ (t : Bool). cond t (drop_trailing same_at keep (take (r - 1) ws)) (take r ws)) (not-true b t))
+    pub trim_stop : b ≡ false → r ≡ length (drop_trailing same_at keep ws)
+    trim_stop t = stays r w (step ∙ ap (λ (t : Bool). cond t (drop_trailing same_at keep (take (r - 1) ws)) (take r ws)) t)
 
   pub trim_few : (r : ℕ) → Trimming r → r ≤ 3 → r ≡ length (drop_trailing same_at keep ws)
   trim_few r w h = stays r w (trailing_end same_at ws r h)

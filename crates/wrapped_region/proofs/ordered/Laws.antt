@@ -1,5 +1,5 @@
 -- Two rings in their order: which is lower, and the upper one lifted.
-use Rattle.std.proofs.Common.{◌≡◌, ℕ, Bool, true, false, cond, not, map, sym, refl, ap, ◌∙◌}
+use Rattle.std.proofs.Common.{◌≡◌, ℕ, Result, Bool, true, false, cond, not, map, sym, refl, ap, ◌∙◌}
 use lib.Ieee.{Float}
 use Rattle.numbers.specs.declared.math.Frame.{Frame}
 use Rattle.numbers.specs.declared.math.Vec3.{Vec3}
@@ -17,7 +17,8 @@ use Rattle.bands.specs.Rings.{Face}
 use Rattle.bands.specs.Strip.{Setting}
 use Rattle.bands.specs.Band.{first_is_lower, lift, mean_v, pick}
 use Rattle.strip.specs.Closing.{closing_of, closed_into}
-use Rattle.strip.specs.declared.closing.Closing.{Closing}
+use Rattle.strip.specs.declared.closing.Closed.{Closed}
+use Rattle.strip.specs.declared.closing.TooMany.{TooMany}
 use Rattle.wrapped_region.specs.Ordered.{crosses, lifted_by, first_lower, lower_of, upper_of}
 
 -- ---- the upper ring lifted
@@ -88,10 +89,10 @@ module _ (frame : Frame) (surface : Surface) (options : Resolved) (period : Floa
   On sense = setting_of frame surface options period sense
 
   -- between a lower and an upper ring
-  abbrev pub Between : Corners Vec3 → Corners Vec3 → ℕ → Corners Vec3 → Closing → Corners Vec3 → Type 0
+  abbrev pub Between : Corners Vec3 → Corners Vec3 → ℕ → Corners Vec3 → Result Closed TooMany → Corners Vec3 → Type 0
   Between lower upper room old r now = ((sense : Bool) → r ≡ closing_of (On sense) lower upper room) × ((sense : Bool) → now ≡ closed_into (On sense) lower upper room old)
 
-  pub between : (p : Period) (t : Bool) (lower upper up : Corners Vec3) (room : ℕ) (old : Corners Vec3) (r : Closing) (now : Corners Vec3) → p ≡ v_period surface
+  pub between : (p : Period) (t : Bool) (lower upper up : Corners Vec3) (room : ℕ) (old : Corners Vec3) (r : Result Closed TooMany) (now : Corners Vec3) → p ≡ v_period surface
       → up ≡ map (move_v (lifted_by p t)) upper → Between lower up room old r now
       → ((sense : Bool) → r ≡ closing_of (On sense) lower (map (move_v (lifted_by (v_period surface) t)) upper) room)
       × (((sense : Bool) → now ≡ closed_into (On sense) lower (map (move_v (lifted_by (v_period surface) t)) upper) room old) × (up ≡ map (move_v (lifted_by (v_period surface) t)) upper))
@@ -101,7 +102,7 @@ module _ (frame : Frame) (surface : Surface) (options : Resolved) (period : Floa
         (λ sense. closes.1 sense ∙ ap (λ (l : Corners Vec3). closed_into (On sense) lower l room old) is, is),
       )
 
-  module _ (with₁ with₂ : Bool) (face : Face Vec3) (room : ℕ) (old : Corners Vec3) (r : Closing) (now first later : Corners Vec3) where
+  module _ (with₁ with₂ : Bool) (face : Face Vec3) (room : ℕ) (old : Corners Vec3) (r : Result Closed TooMany) (now first later : Corners Vec3) where
     abbrev Ordered : Type 0
     Ordered =
         ((sense : Bool) → r ≡ closing_of (On sense) (lower_of (On sense) with₁ with₂ face) (upper_of (On sense) with₁ with₂ face) room)

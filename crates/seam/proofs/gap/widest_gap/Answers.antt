@@ -1,9 +1,13 @@
-use Rattle.seam.proofs.Spans.{passing_turn, passing-end}
+use mathlib.Core.List.{[], ◌∷◌, foldl-append}
+use Rattle.std.proofs.Common.{sym, ap, ◌∙◌}
+use Rattle.lists.proofs.Folds.{folding_end}
+use Rattle.seam.specs.declared.gap.Gap.{Gap}
+use Rattle.seam.specs.Gap.{span, passed, gap_along}
 use Rattle.seam.proofs.gap.widest_gap.Goals as goal
 
-pub loop-i-preserved : goal.loop-i-preserved
-loop-i-preserved c = passing_turn _ _ _ _ c.shorter-n.ensures _ _ _ c.loop-i.invariant
-    c.loop-i-test.true c.passed-g.ensures
-
 pub returns : goal.returns
-returns c = passing-end _ _ _ _ c.shorter-n.ensures _ _ _ _ c.loop-i.invariant c.loop-i-test.false c.passed.ensures
+unfolding gap_along
+returns c =
+    let last = span c.args.hi c.args.hi in
+    c.passed.ensures ∙ ap (λ (g : Gap). passed g last) (folding_end passed _ _ _ _ c.loop-s.invariant c.loop-s-test.false)
+    ∙ sym (foldl-append passed _ c.args.spans.now (last ∷ []))

@@ -1,7 +1,7 @@
-use mathlib.Core.Bool.{not}
-use Rattle.std.proofs.Common.{ap}
+use Rattle.std.proofs.Common.{length, sym, ap, ◌∙◌}
 use Rattle.strip.proofs.repeats.Laws as laws
 use Rattle.strip.proofs.closing.keep_successive.Goals as goal
+use Rattle.strip.proofs.closing.keep_successive.Goals.{then-not-repeated_by, else-not-repeated_by}
 
 pub returns-then-n-eq0 : goal.returns-then-n-eq0
 returns-then-n-eq0 c = let r = laws.fold_none _ _ _ c.requires.0 c.if-n-eq0.true in record { value = r.0; out_after = r.1 }
@@ -9,15 +9,14 @@ returns-then-n-eq0 c = let r = laws.fold_none _ _ _ c.requires.0 c.if-n-eq0.true
 pub loop-i-init : goal.loop-i-init
 loop-i-init c = laws.folding _ _ _ _ c.requires.0 c.requires.1 c.if-n-eq0.false c.strip_corner-last.ensures
 
-pub loop-i-preserved-then-not-repeated_by : goal.loop-i-preserved-then-not-repeated_by
-loop-i-preserved-then-not-repeated_by c = laws.fold_other _ _ _ _ _ _ _ _ _ c.loop-i.invariant
-    c.loop-i-test.true c.strip_corner-next.ensures
-    c.repeated_by.ensures _ (ap not c.if-not-repeated_by.true) c.put_corner.ensures
-    c.out-1.given
-
 pub loop-i-preserved : goal.loop-i-preserved
-loop-i-preserved c = laws.fold_repeat _ _ _ _ _ _ _ _ _ c.loop-i.invariant c.loop-i-test.true
-    c.strip_corner-next.ensures c.repeated_by.ensures (ap not c.if-not-repeated_by.false)
+loop-i-preserved c =
+    elim c.if-not-repeated_by.branch [
+      | then-not-repeated_by w ↦ rw (w.out-is, w.last-is, w.m-is) (laws.fold_other _ _ _ _ _ _ _ _ _ c.loop-i.invariant c.loop-i-test.true
+          c.strip_corner-next.ensures c.repeated_by.ensures _ w.if-not-repeated_by.true w.put_corner.ensures (ap length (sym w.out-is) ∙ c.if-not-repeated_by.auto.out))
+      | else-not-repeated_by w ↦ rw (w.out-is, w.last-is, w.m-is) (laws.fold_repeat _ _ _ _ _ _ _ _ _ c.loop-i.invariant c.loop-i-test.true
+          c.strip_corner-next.ensures c.repeated_by.ensures w.if-not-repeated_by.false)
+    ]
 
 pub returns : goal.returns
 returns c = let r = laws.fold_end _ _ _ _ _ _ _ _ c.loop-i.invariant c.loop-i-test.false

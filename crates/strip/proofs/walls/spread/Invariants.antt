@@ -4,6 +4,3 @@ use Rattle.strip.proofs.walls.spread.Given as goal
 
 abbrev pub invariant-loop-i : goal.invariant-loop-i
 invariant-loop-i l = laws.Spreading (row_on l.frame l.surface l.u) l.n l.initial.wall l.wall l.i
-
-abbrev pub decreases-loop-i : goal.decreases-loop-i
-decreases-loop-i l = l.i
