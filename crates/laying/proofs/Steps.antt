@@ -11,16 +11,17 @@ use Rattle.tables.specs.Corners.{Corners, us, move_u}
 use Rattle.tables.specs.Moves.{moved_by}
 use Rattle.tables.specs.declared.moves.Move.TheVariants.{Down}
 use Rattle.tables.specs.Rows.{rows}
+use Rattle.tables.specs.declared.corners.Corner.{Corner as Held}
 use Rattle.rings.specs.Choices.{least_u, first_of}
 use Rattle.bands.specs.Rings.{rising, shifted, laid}
 use Rattle.rings.specs.Starts.{less_u}
 use Rattle.laying.specs.Held.{loop_in, given_in}
 
-pub rises : (t : List Float) (falls : Bool) (r : Corners Vec3) → falls ≡ true → r ≡ reverse (rows t) → r ≡ rising (loop_in t falls)
+pub rises : (t : List Held) (falls : Bool) (r : Corners Vec3) → falls ≡ true → r ≡ reverse (rows t) → r ≡ rising (loop_in t falls)
 unfolding rising
 rises t falls r h e = e ∙ ap (λ (b : Bool). cond b (reverse (rows t)) (rows t)) (sym h)
 
-pub stays : (t : List Float) (falls : Bool) → falls ≡ false → rows t ≡ rising (loop_in t falls)
+pub stays : (t : List Held) (falls : Bool) → falls ≡ false → rows t ≡ rising (loop_in t falls)
 unfolding rising
 stays t falls h = ap (λ (b : Bool). cond b (reverse (rows t)) (rows t)) (sym h)
 
@@ -48,7 +49,7 @@ module _ (period : Float) where
       let lands = first_lands least first step r f g ef es in
       (shift_is least first step r r' ef es e, subst (λ (s : Corners Vec3). LandsNear (first_of (us r)) least period (first_of (us s))) (sym e) lands)
 
-  module _ (first later : List Float) (f l : Bool) (holes : List (Corners Vec3)) (least : Float) (r r' : Corners Vec3)
+  module _ (first later : List Held) (f l : Bool) (holes : List (Corners Vec3)) (least : Float) (r r' : Corners Vec3)
       (least_is : least ≡ least_u (us (rows first)) (us (rows later))) (shifted_is : r' ≡ shifted period least r) where
     pub first-laid : r ≡ rising (loop_in first f) → r' ≡ (laid period (given_in first later f l holes)).first
     unfolding laid

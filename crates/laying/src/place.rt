@@ -9,11 +9,13 @@ ghost use Rattle.bands.specs.Rings.{rising, shifted, laid};
 ghost use Rattle.laying.specs.Held.{loop_in, given_in};
 
 use loops::branch::branch_shift;
-use rings::table_choices::{first_of, least_u};
+use rings::choices::first_of;
+use rings::table_choices::least_u;
+use tables::corners::Corner;
 use tables::moves::{Move, move_u, reverse_rows};
 
 // A ring by whole periods toward the least u.
-pub fn shift(t: &mut [f64], least: f64, period: f64)
+pub fn shift(t: &mut [Corner], least: f64, period: f64)
     ensures t_after { rows t.new ≡ shifted period least (rows t.old) }
     ensures lands_near { LandsNear (first_of (us (rows t.old))) least period (first_of (us (rows t.new))) }
 {
@@ -22,7 +24,7 @@ pub fn shift(t: &mut [f64], least: f64, period: f64)
 }
 
 // A ring of negative travel is read backward.
-fn rise(t: &mut [f64], falls: bool)
+fn rise(t: &mut [Corner], falls: bool)
     ensures { rows t.new ≡ rising (loop_in t.old falls) }
 {
     if falls {
@@ -32,8 +34,8 @@ fn rise(t: &mut [f64], falls: bool)
 
 // Both rings with u rising, shifted toward the least u of both.
 pub fn lay_rings(
-    first: &mut [f64],
-    later: &mut [f64],
+    first: &mut [Corner],
+    later: &mut [Corner],
     first_falls: bool,
     later_falls: bool,
     period: f64,

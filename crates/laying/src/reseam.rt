@@ -12,13 +12,14 @@ ghost use Rattle.laying.specs.Held.{face_in, reseam_within};
 
 use super::holes::{any_straddles, onto_all, spans_into};
 use numbers::order::is_finite;
+use rings::moves::recut_at;
 use rings::table_choices::{first_open_past, greatest_u, least_u};
-use rings::table_turns::recut_at;
 use seam::gap::{Gap, Span, sort_spans, usable, widest_gap};
+use tables::corners::Corner;
 use tables::moves::Move;
 
 // Whether the rings make a strip at all, from lo, their least u, on.
-fn has_strip(lo: f64, first: &[f64], later: &[f64]) -> bool
+fn has_strip(lo: f64, first: &[Corner], later: &[Corner]) -> bool
     ensures { result ≡ (finite lo && lt lo (greatest_u (us (rows first.now)) (us (rows later.now)))) }
 {
     if is_finite(lo) {
@@ -28,7 +29,7 @@ fn has_strip(lo: f64, first: &[f64], later: &[f64]) -> bool
 }
 
 // The widest gap between the holes. What they cover stands in the front of `spans`.
-fn gap_of(spans: &mut [Span], holes: &[f64], counts: &[usize], lo: f64, hi: f64) -> Gap
+fn gap_of(spans: &mut [Span], holes: &[Corner], counts: &[usize], lo: f64, hi: f64) -> Gap
     requires { length counts.now ≤ length spans.old }
     ensures { result ≡ widest_gap lo hi (map span_of (pieces counts.now (us (rows holes.now)))) }
 {
@@ -40,7 +41,7 @@ fn gap_of(spans: &mut [Span], holes: &[f64], counts: &[usize], lo: f64, hi: f64)
 }
 
 // A ring cut anew at its first open point at or past the cut.
-fn recut(t: &mut [f64], cut: f64, period: f64)
+fn recut(t: &mut [Corner], cut: f64, period: f64)
     ensures { rows t.new ≡ recut period cut (rows t.old) }
 {
     let k = first_open_past(t, cut);
@@ -49,9 +50,9 @@ fn recut(t: &mut [f64], cut: f64, period: f64)
 
 // The rings begun anew at the cut, and the holes brought onto the strip that begins there.
 fn cut_anew(
-    first: &mut [f64],
-    later: &mut [f64],
-    holes: &mut [f64],
+    first: &mut [Corner],
+    later: &mut [Corner],
+    holes: &mut [Corner],
     counts: &[usize],
     cut: f64,
     period: f64,
@@ -67,9 +68,9 @@ fn cut_anew(
 
 // With a place for what each hole covers.
 fn reseam_with_room(
-    first: &mut [f64],
-    later: &mut [f64],
-    holes: &mut [f64],
+    first: &mut [Corner],
+    later: &mut [Corner],
+    holes: &mut [Corner],
     counts: &[usize],
     spans: &mut [Span],
     period: f64,
@@ -96,9 +97,9 @@ fn reseam_with_room(
 // across the seam and leaves a gap. spans is scratch for what the holes cover: where it is shorter than
 // the counts nothing is done.
 pub fn reseam(
-    first: &mut [f64],
-    later: &mut [f64],
-    holes: &mut [f64],
+    first: &mut [Corner],
+    later: &mut [Corner],
+    holes: &mut [Corner],
     counts: &[usize],
     spans: &mut [Span],
     period: f64,

@@ -1,11 +1,13 @@
-use borrow.Author.Rules.{rules}
-use Rattle.laying.proofs.EachHole.{holes_moving_turn, holes_moving_end}
+use Rattle.std.proofs.Common.{rules}
+use Rattle.laying.proofs.EachHole.{holes_moving, holes_moving_turn, holes_moving_end}
 use Rattle.laying.proofs.holes.onto_all.Goals as goal
 
-pub loop-i-preserved : goal.loop-i-preserved
-loop-i-preserved c = holes_moving_turn _ _ _ _ _ _ _ _ _ _ c.loop-i.invariant
-    c.loop-i-test.true c.piece_end-to.ensures (search rules)
-    c.onto_part.ensures
+pub loop-points-init : goal.loop-points-init
+loop-points-init c = holes_moving _ _ _ _
+
+pub loop-points-preserved : goal.loop-points-preserved
+loop-points-preserved c = holes_moving_turn _ _ _ _ _ _ _ _ _ c.loop-points.invariant c.loop-points-test.true c.piece_end-to.ensures c.onto.ensures
+    (search rules)
 
 pub returns : goal.returns
-returns c = holes_moving_end _ _ _ _ _ _ _ _ c.loop-i.invariant c.loop-i-test.false
+returns c = holes_moving_end _ _ _ _ _ _ _ c.loop-points.invariant c.loop-points-test.false

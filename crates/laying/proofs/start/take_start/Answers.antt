@@ -1,28 +1,10 @@
+use Rattle.std.proofs.Common.{arith}
 use Rattle.laying.proofs.Starting.{none-taken, start-taken}
 use Rattle.laying.proofs.start.take_start.Goals as goal
 
-pub returns-then-room-count : goal.returns-then-room-count
-returns-then-room-count c = let r = none-taken _ c.args.u.now c.args.v.now c.args.x.now c.args.y.now c.args.z.now _ _ _ _
-    c.shorter-parameters.ensures
-    c.shorter.ensures
-    c.shorter-2.ensures
-    c.shorter-room.ensures _ _ c.args.first.now
-    c.args.later.now c.count.ensures.0 c.count-2.ensures.0 _
-    c.search_tables-found.ensures c.if-room-count.true in record { value = r.0; first_after = r.1.0; later_after = r.1.1 }
+pub returns-then-trial-first : goal.returns-then-trial-first
+returns-then-trial-first c = none-taken _ _ _ _ _ c.search_tables-found.ensures (omega (arith, c.search_tables-found.auto.trial))
 
 pub returns : goal.returns
-returns c = let r = start-taken _ c.args.u.now c.args.v.now c.args.x.now c.args.y.now c.args.z.now _ _ _ _
-    c.shorter-parameters.ensures
-    c.shorter.ensures
-    c.shorter-2.ensures
-    c.shorter-room.ensures
-    _ _ c.args.first.now c.args.later.now
-    c.count.ensures.0
-    c.count-2.ensures.0
-    _
-    c.search_tables-found.ensures
-    c.if-room-count.false
-    _ _ _
-    c.first_within.ensures
-    c.first_of-cut.ensures
-    c.later_within.ensures in record { value = r.0; first_after = r.1.0; later_after = r.1.1 }
+returns c = start-taken _ _ _ _ _ c.search_tables-found.ensures (omega (arith, c.search_tables-found.auto.trial)) _ _ _
+    c.begin_ring_at.ensures c.first_of-cut.ensures c.later_for.ensures
