@@ -7,6 +7,7 @@ use native.Mathlib.Omega.{arith}
 use lib.IntN.{ℤ, pos, negsuc}
 use lib.ListN.{length, get_or, take, drop, replicate, length-replicate}
 use lib.Seq.{get_or-take}
+use Rattle.std.specs.Int.{int_signum}
 use Rattle.numbers.specs.declared.math.Vec3.{Vec3}
 use Rattle.surfaces.specs.declared.surface.Period.{Period}
 use Rattle.lists.specs.Pieces.{pieces}
@@ -19,11 +20,11 @@ use Rattle.loop_records.specs.Record.{no_loop}
 use Rattle.bands.specs.Given.{falls}
 use Rattle.lists.specs.Elements.{sum}
 use Rattle.call.proofs.Sizes.{total}
-use Rattle.loop_records.specs.Loops.{sign_of, record_of, records_from}
+use Rattle.loop_records.specs.Loops.{record_of, records_from}
 use Rattle.loops.specs.Wrap.{net_wrap}
 use Rattle.loop_records.proofs.Recorded.{length_records}
 
-falls_sign : (z : ℤ) → falls (sign_of z) ≡ falls z
+falls_sign : (z : ℤ) → falls (int_signum z) ≡ falls z
 falls_sign (pos zero) = refl
 falls_sign (pos (suc n)) = refl
 falls_sign (negsuc n) = refl

@@ -9,7 +9,6 @@ use lib.Ieee.{Float, nan}
 use lib.ListN.{length, get_or, take, replicate}
 use Rattle.lists.specs.Pieces.{pieces}
 use Rattle.lists.specs.Placed.{placed}
-use Rattle.lists.proofs.Pieces.{length-pieces}
 use Rattle.numbers.specs.declared.math.Frame.{Frame}
 use Rattle.surfaces.specs.declared.options.Resolved.{Resolved}
 use Rattle.surfaces.specs.declared.surface.Period.{Period}
@@ -167,18 +166,13 @@ module _ (s : List ℕ) (a : Accepted version1 s) (head : List Float) (counts : 
     records_in = recorded ∙ ap (λ (q : Period). placed 0 (records_from q 0 (pieces counts (rows t))) (replicate 16 no_loop)) p_is
 
     module _ (l : ℕ) (l_is : l ≡ length counts) where
-      -- what is read out of the records, of each loop: f of its record
-      out : {B : Type 0} (f : LoopRecord → B) (b₀ b : List B) → b ≡ placed 0 (map f (take l records)) b₀ → b ≡ placed 0 (map f (records_from p 0 (pieces counts (rows t)))) b₀
-      out f b₀ b e = read_out f p counts (rows t) records b₀ b few-counts recorded (e ∙ ap (λ (k : ℕ). placed 0 (map f (take k records)) b₀) l_is)
+      pub wraps_in_lem : (w : List ℤ) → w ≡ map (λ (one : LoopRecord). one.wrap) records → take l w ≡ wraps_in s
+      wraps_in_lem w e =
+          ap (λ (k : ℕ). take k w) l_is ∙ read_out (λ (one : LoopRecord). one.wrap) p counts (rows t) records w few-counts recorded e
+          ∙ ap (λ (q : Period). map (λ (one : LoopRecord). one.wrap) (records_from q 0 (pieces counts (rows t)))) (p_is ∙ ap u_period surface_is)
+          ∙ wraps_shown s (pieces counts (rows t)) held
 
-      pub wraps_in_lem : (w₀ w : List ℤ) → 16 ≤ length w₀ → w ≡ placed 0 (map (λ (one : LoopRecord). one.wrap) (take l records)) w₀ → take l w ≡ wraps_in s
-      wraps_in_lem w₀ w room e =
-          let few = few-counts in
-          wraps_shown s (pieces counts (rows t)) held l (l_is ∙ sym (length-pieces counts (rows t))) w₀ w (omega arith)
-          (out (λ (one : LoopRecord). one.wrap) w₀ w e
-          ∙ ap (λ (q : Period). placed 0 (map (λ (one : LoopRecord). one.wrap) (records_from q 0 (pieces counts (rows t)))) w₀) (p_is ∙ ap u_period surface_is))
-
-      pub areas_in : (m₀ m : List Float) → 16 ≤ length m₀ → m ≡ placed 0 (map (λ (one : LoopRecord). one.area) (take l records)) m₀ → take l m ≡ map signed_area (pieces counts (rows t))
-      areas_in m₀ m room e =
-          let few = few-counts in
-          areas_shown p (pieces counts (rows t)) l m₀ m (l_is ∙ sym (length-pieces counts (rows t))) (omega arith) (out (λ (one : LoopRecord). one.area) m₀ m e)
+      pub areas_in : (m : List Float) → m ≡ map (λ (one : LoopRecord). one.area) records → take l m ≡ map signed_area (pieces counts (rows t))
+      areas_in m e =
+          ap (λ (k : ℕ). take k m) l_is ∙ read_out (λ (one : LoopRecord). one.area) p counts (rows t) records m few-counts recorded e
+          ∙ areas_shown p 0 (pieces counts (rows t))

@@ -41,7 +41,7 @@ fn fill_path(
     head: &[f64],
     given: &[usize],
     corners: &mut [f64],
-    loops: [LoopRecord; 16],
+    loops: &[LoopRecord],
     wraps: &[i32],
     measured: &mut [f64],
     boxes: &mut [f64; 64],
@@ -51,7 +51,7 @@ fn fill_path(
     areas: &mut [f64; 16],
 ) -> Filled
     ensures { Accepted version1 face.now → ReadAs face.now head.now given.now corners.old
-        → loops ≡ placed 0 (records_from (u_period surface) 0 (pieces given.now (rows corners.old))) (replicate 16 no_loop)
+        → loops.now ≡ placed 0 (records_from (u_period surface) 0 (pieces given.now (rows corners.old))) (replicate 16 no_loop)
         → wraps.now ≡ wraps_in face.now → measured.old ≡ map signed_area (pieces given.now (rows corners.old))
         → surface ≡ surface_in face.now → verdict ring_conditions face.now ≡ passes
         → FillsTo (verdict (strip_conditions version1) face.now) face.now result counts.new areas.new t.new }
@@ -102,16 +102,14 @@ fn fill_record(
     let mut head = [0.0; 13];
     let mut given = [0; 16];
     let mut corners = [0.0; 2560];
-    let mut wraps = [0; 16];
-    let mut measured = [0.0; 16];
     let mut boxes = [0.0; 64];
     read_head(face, &mut head);
     let l = read_many(read_counts(face, &mut given));
     let e = 5 * read_many(read_corners(face, &mut corners));
     let surface = surface_of(kind(face), at(&head, 9), at(&head, 10));
     let loops = measure_loops(&corners[..e], &given[..l], surface.u_period());
-    wraps_of(loops, l, &mut wraps);
-    areas_of(loops, l, &mut measured);
+    let wraps = wraps_of(loops);
+    let mut measured = areas_of(loops);
     let found = check_rings(kind(face), &corners[..e], &given[..l], &wraps[..l]);
     if let Verdict::Refuses { number, place } = found {
         return Filled::Refused { number, place };
@@ -121,7 +119,7 @@ fn fill_record(
         &head,
         &given[..l],
         &mut corners[..e],
-        loops,
+        &loops,
         &wraps[..l],
         &mut measured[..l],
         &mut boxes,

@@ -184,7 +184,7 @@ fn ring_reals(rows: usize) -> usize
 fn band_of(
     corners: &[f64],
     given: &[usize],
-    loops: [LoopRecord; 16],
+    loops: &[LoopRecord],
     a: usize,
     b: usize,
     frame: Frame,
@@ -194,7 +194,7 @@ fn band_of(
     holes: &mut [f64],
     t: &mut [f64; 7680],
 ) -> Result<Closed, TooMany>
-    ensures { (s : List ℕ) → BandFace s corners.now given.now loops frame surface options sense a b → version1.points ≤ length (rows holes.old)
+    ensures { (s : List ℕ) → BandFace s corners.now given.now loops.now frame surface options sense a b → version1.points ≤ length (rows holes.old)
         → BandIs (setting_in s) (given_in s) result t.new (pieces (others a b given.now) (rows holes.new)) }
 {
     let mut first = [0.0; 2560];
@@ -238,7 +238,7 @@ fn loops_left(given: usize) -> usize
 fn fill_band(
     corners: &[f64],
     given: &[usize],
-    loops: [LoopRecord; 16],
+    loops: &[LoopRecord],
     wraps: &[i32],
     measured: &[f64],
     frame: Frame,
@@ -250,7 +250,7 @@ fn fill_band(
     areas: &mut [f64; 16],
 ) -> Filled
     ensures { (s : List ℕ) → Accepted version1 s → wrapping s ≡ 2 → given.now ≡ counts_of s → rows corners.now ≡ corners_in s
-        → loops ≡ placed 0 (records_from (u_period surface) 0 (pieces given.now (rows corners.now))) (replicate 16 no_loop)
+        → loops.now ≡ placed 0 (records_from (u_period surface) 0 (pieces given.now (rows corners.now))) (replicate 16 no_loop)
         → wraps.now ≡ wraps_in s → measured.now ≡ map signed_area (pieces given.now (rows corners.now)) → surface ≡ surface_in s → frame ≡ frame_in s → options ≡ options_in s → sense ≡ sense_in s
         → FillsTo (verdict (strip_conditions version1) s) s result counts.new areas.new t.new }
 {

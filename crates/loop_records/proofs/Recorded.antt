@@ -1,23 +1,22 @@
 -- The records of a face's loops, put into a list one by one, and what is read out of it.
-use Prim.Native.Nat.{ℕ, zero, suc, ◌+◌, ◌-◌, ◌≤◌, ◌<◌, min}
+use Prim.Native.Nat.{ℕ, suc, ◌+◌, ◌-◌, ◌≤◌, ◌<◌, min}
 use mathlib.Core.Path.{◌≡◌, refl, sym, ap, ◌∙◌}
-use mathlib.Core.Bool.{true, false, true≢false}
 use mathlib.Core.List.{List, [], ◌∷◌, map}
 use native.Mathlib.Numerals.{add-one}
 use native.Mathlib.Omega.{arith}
-use borrow.Author.Tests.{lt-ltb, le-ltb}
-use lib.IntN.{ℤ, pos, negsuc}
-use lib.Signed.{lt_z}
+use lib.IntN.{ℤ}
 use lib.Ieee.{Float}
 use lib.ListN.{length, get_or, set, take, drop, replicate, length-take, length-drop}
 use lib.Seq.{drop-cons}
 use mir.Syntax.{w32}
 use mir.Val.{SFits, to_z, of_z}
 use mir.Facts.{to_z-of_z}
+use Rattle.std.specs.Int.{int_signum}
 use Rattle.numbers.specs.declared.math.Vec3.{Vec3}
 use Rattle.surfaces.specs.declared.surface.Period.{Period}
 use Rattle.lists.specs.Pieces.{pieces}
 use Rattle.lists.specs.Placed.{placed}
+use Rattle.lists.proofs.Maps.{map-take}
 use Rattle.lists.proofs.Filling.{Filling, front, front_turn, filling_end}
 use Rattle.lists.proofs.Pieces.{Cutting, cutting, cutting_turn, cutting_piece, length-pieces}
 use Rattle.lists.proofs.Placed.{placed_short, front-placed}
@@ -26,43 +25,17 @@ use Rattle.loop_records.specs.Record.{no_loop}
 use Rattle.tables.specs.Corners.{Corners, us, vs}
 use Rattle.loops.specs.Area.{area_of}
 use Rattle.loops.specs.Wrap.{net_wrap}
-use Rattle.loop_records.specs.Loops.{sign_of, record_of, records_from}
-
--- ---- the sign of a wrap, from the two tests
-
-below : (z : ℤ) → lt_z z (pos 0) ≡ true → negsuc 0 ≡ sign_of z
-below (pos n) t = absurd (true≢false (sym t ∙ le-ltb n 0 (omega arith)))
-below (negsuc n) t = refl
-
-over : (z : ℤ) → lt_z (pos 0) z ≡ true → pos 1 ≡ sign_of z
-over (pos zero) t = absurd (true≢false (sym t))
-over (pos (suc n)) t = refl
-over (negsuc n) t = absurd (true≢false (sym t))
-
-neither : (z : ℤ) → lt_z z (pos 0) ≡ false → lt_z (pos 0) z ≡ false → pos 0 ≡ sign_of z
-neither (pos zero) f g = refl
-neither (pos (suc n)) f g = absurd (true≢false (sym (lt-ltb 0 (suc n) (omega arith)) ∙ g))
-neither (negsuc n) f g = absurd (true≢false f)
-
-module _ (z : ℤ) (fits : SFits w32 z) where
-  pub sign_below : lt_z (to_z w32 (of_z w32 z)) (pos 0) ≡ true → negsuc 0 ≡ sign_of z
-  sign_below t = below z (sym (ap (λ (y : ℤ). lt_z y (pos 0)) (to_z-of_z fits)) ∙ t)
-
-  pub sign_over : lt_z (pos 0) (to_z w32 (of_z w32 z)) ≡ true → pos 1 ≡ sign_of z
-  sign_over t = over z (sym (ap (lt_z (pos 0)) (to_z-of_z fits)) ∙ t)
-
-  pub sign_none : lt_z (to_z w32 (of_z w32 z)) (pos 0) ≡ false → lt_z (pos 0) (to_z w32 (of_z w32 z)) ≡ false → pos 0 ≡ sign_of z
-  sign_none f g = neither z (sym (ap (λ (y : ℤ). lt_z y (pos 0)) (to_z-of_z fits)) ∙ f) (sym (ap (lt_z (pos 0)) (to_z-of_z fits)) ∙ g)
+use Rattle.loop_records.specs.Loops.{record_of, records_from}
 
 -- ---- one record
 
 pub record_is : (period : Period) (r : Corners Vec3) (start n : ℕ) (w t : ℤ) (a : Float) → n ≡ length r → SFits w32 w → SFits w32 t → w ≡ net_wrap period (us r)
-    → t ≡ sign_of (to_z w32 (of_z w32 w)) → a ≡ area_of (us r) (vs r)
+    → t ≡ int_signum (to_z w32 (of_z w32 w)) → a ≡ area_of (us r) (vs r)
     → record { start = start; count = n; wrap = to_z w32 (of_z w32 w); travel = to_z w32 (of_z w32 t); area = a } ≡ record_of period start r
 unfolding record_of
 record_is period r start n w t a ne wf tf we te ae =
     let wrap = to_z-of_z wf ∙ we in
-    let travel = to_z-of_z tf ∙ te ∙ ap sign_of wrap in
+    let travel = to_z-of_z tf ∙ te ∙ ap int_signum wrap in
     λ i. record { start = start; count = ne i; wrap = wrap i; travel = travel i; area = ae i }
 
 -- ---- one for each loop
@@ -100,13 +73,13 @@ module _ (period : Period) (ns : List ℕ) (xs : Corners Vec3) (d₀ : List Loop
   pub recording : length ns ≤ length d₀ → Recording d₀ 0 0
   recording h = let l = length_wanted in record { at = cutting ns xs; rest = refl; fill = front wanted d₀ (omega arith) }
 
-  pub recording_turn : (d d' : List LoopRecord) (from to i : ℕ) → Recording d from i → i < length ns → to ≡ min (from + get_or ns i 0) (length xs)
-      → d' ≡ set d i (record_of period from (take (to - from) (drop from xs))) → Recording d' to (i + 1)
-  recording_turn d d' from to i k h e put = record {
+  pub recording_turn : (d : List LoopRecord) (from to i : ℕ) (x : LoopRecord) → Recording d from i → i < length ns → to ≡ min (from + get_or ns i 0) (length xs)
+      → x ≡ record_of period from (take (to - from) (drop from xs)) → Recording (set d i x) to (i + 1)
+  recording_turn d from to i x k h e x_is = record {
     at = cutting_turn ns xs from to i k.at h e;
     rest = rw (add-one i) (ap (drop 1) cut ∙ ap (λ (n : ℕ). records_from period n (drop (suc i) (pieces ns xs))) end);
-    fill = rw put (front_turn wanted d₀ d i _ no_loop k.fill (let l = length_wanted in omega arith)
-        (ap (record_of period from) (sym piece) ∙ sym (ap (λ (l : List LoopRecord). get_or l 0 no_loop) cut)));
+    fill = front_turn wanted d₀ d i x no_loop k.fill (let l = length_wanted in omega arith)
+        (x_is ∙ ap (record_of period from) (sym piece) ∙ sym (ap (λ (l : List LoopRecord). get_or l 0 no_loop) cut));
   }
     where
       here : Corners Vec3
@@ -132,12 +105,11 @@ module _ (period : Period) (ns : List ℕ) (xs : Corners Vec3) (d₀ : List Loop
   pub recording_end : (d : List LoopRecord) (from i : ℕ) → Recording d from i → length ns ≤ i → d ≡ placed 0 wanted d₀
   recording_end d from i k h = filling_end 0 wanted d₀ d i k.fill (let l = length_wanted in omega arith)
 
--- what is read out of the list, of each loop: f of its record
-pub read_out : {B : Type 0} (f : LoopRecord → B) (period : Period) (ns : List ℕ) (xs : Corners Vec3) (d : List LoopRecord) (b₀ b : List B) → length ns ≤ 16
-    → d ≡ placed 0 (records_from period 0 (pieces ns xs)) (replicate 16 no_loop) → b ≡ placed 0 (map f (take (length ns) d)) b₀
-    → b ≡ placed 0 (map f (records_from period 0 (pieces ns xs))) b₀
-read_out f period ns xs d b₀ b few e r =
+-- what is read of each record: of those of the loops, in front
+pub read_out : {B : Type 0} (f : LoopRecord → B) (period : Period) (ns : List ℕ) (xs : Corners Vec3) (d : List LoopRecord) (b : List B) → length ns ≤ 16
+    → d ≡ placed 0 (records_from period 0 (pieces ns xs)) (replicate 16 no_loop) → b ≡ map f d → take (length ns) b ≡ map f (records_from period 0 (pieces ns xs))
+read_out f period ns xs d b few e r =
     let w : List LoopRecord = records_from period 0 (pieces ns xs) in
     let l : length w ≡ length ns = length_records period 0 (pieces ns xs) ∙ length-pieces ns xs in
     let front : take (length ns) d ≡ w = ap (take (length ns)) e ∙ ap (λ (n : ℕ). take n (placed 0 w (replicate 16 no_loop))) (sym l) ∙ front-placed w (replicate 16 no_loop) (omega arith) in
-    r ∙ ap (λ (y : List LoopRecord). placed 0 (map f y) b₀) front
+    ap (take (length ns)) r ∙ sym (map-take f (length ns) d) ∙ ap (map f) front

@@ -1,13 +1,8 @@
-// The loops of a face as a lent list of records. `measure::measure_loop` and `ring::take_ring` take
-// the list, `measure::with_loop` and `ring::lent_ring` make it and lend it: their proofs are walks by
-// hand. All others have the array by value.
+// The loops of a face as a list of records.
 #![tactic(auto)]
 
-ghost use Rattle.std.specs.Prelude.{◌≡◌, map, take};
-ghost use Rattle.lists.specs.Placed.{placed};
+ghost use Rattle.std.specs.Prelude.{◌≡◌, map};
 ghost use Rattle.loop_records.specs.Record.{no_loop};
-
-use tables::slices::shorter;
 
 pub mod measure;
 pub mod ring;
@@ -34,35 +29,16 @@ fn no_loop() -> LoopRecord
     }
 }
 
-// The wraps of the first n loops into the front of `wraps`, and nothing where they do not fit.
-pub fn wraps_of(loops: [LoopRecord; 16], n: usize, wraps: &mut [i32])
-    ensures { wraps.new ≡ placed 0 (map (λ (l : LoopRecord). l.wrap) (take n loops)) wraps.old }
+// The wraps of the loops.
+pub fn wraps_of(loops: [LoopRecord; 16]) -> [i32; 16]
+    ensures { result ≡ map (λ (l : LoopRecord). l.wrap) loops }
 {
-    let k = shorter(n, 16);
-    if wraps.len() < k {
-        return;
-    }
-    let mut i = 0;
-    while i < k {
-        let one = loops[i];
-        let wrap = one.wrap;
-        wraps[i] = wrap;
-        i += 1;
-    }
+    loops.map(|one| one.wrap)
 }
 
 // Their areas.
-pub fn areas_of(loops: [LoopRecord; 16], n: usize, areas: &mut [f64])
-    ensures { areas.new ≡ placed 0 (map (λ (l : LoopRecord). l.area) (take n loops)) areas.old }
+pub fn areas_of(loops: [LoopRecord; 16]) -> [f64; 16]
+    ensures { result ≡ map (λ (l : LoopRecord). l.area) loops }
 {
-    let k = shorter(n, 16);
-    if areas.len() < k {
-        return;
-    }
-    let mut i = 0;
-    while i < k {
-        let one = loops[i];
-        areas[i] = one.area;
-        i += 1;
-    }
+    loops.map(|one| one.area)
 }

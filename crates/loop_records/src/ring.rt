@@ -1,5 +1,5 @@
 // One loop taken out of a face's table by its record.
-ghost use Rattle.std.specs.Prelude.{◌≡◌, ◌<◌, length, get_or};
+ghost use Rattle.std.specs.Prelude.{◌≡◌, get_or};
 ghost use Rattle.tables.specs.Rows.{rows};
 ghost use Rattle.loop_records.specs.Record.{no_loop};
 ghost use Rattle.loop_records.specs.Ring.{taken};
@@ -15,34 +15,13 @@ fn copy_ring(dst: &mut [f64], t: &[f64], start: usize, count: usize)
     copy_rows(dst, 0, part_of(t, start, count));
 }
 
-// Loop i of the list into the front of dst, and its record.
-fn take_ring(dst: &mut [f64], t: &[f64], loops: &[LoopRecord], i: usize) -> LoopRecord
-    requires { i < length loops.now }
+// Loop i into the front of dst, and its record. Past the end there is no loop, and its record is that
+// of no corners.
+pub fn ring_of(dst: &mut [f64], t: &[f64], loops: &[LoopRecord], i: usize) -> LoopRecord
     ensures { (result ≡ get_or loops.now i no_loop)
         × (rows dst.new ≡ taken result.start result.count (rows t.now) (rows dst.old)) }
 {
-    let one = loops[i];
+    let one = loops.get(i).copied().unwrap_or(no_loop());
     copy_ring(dst, t, one.start, one.count);
     one
-}
-
-// The same of the array, which is lent.
-fn lent_ring(dst: &mut [f64], t: &[f64], loops: [LoopRecord; 16], i: usize) -> LoopRecord
-    requires { i < 16 }
-    ensures { (result ≡ get_or loops i no_loop)
-        × (rows dst.new ≡ taken result.start result.count (rows t.now) (rows dst.old)) }
-{
-    take_ring(dst, t, &loops, i)
-}
-
-// Loop i into the front of dst, and its record. Past the end there is no loop, and its record is that
-// of no corners.
-pub fn ring_of(dst: &mut [f64], t: &[f64], loops: [LoopRecord; 16], i: usize) -> LoopRecord
-    ensures { (result ≡ get_or loops i no_loop)
-        × (rows dst.new ≡ taken result.start result.count (rows t.now) (rows dst.old)) }
-{
-    if i < 16 {
-        return lent_ring(dst, t, loops, i);
-    }
-    no_loop()
 }

@@ -8,7 +8,7 @@ use Rattle.filling.proofs.fill_band.Goals as goal
 pub returns-in-Ok : goal.returns-in-Ok
 returns-in-Ok c = λ s acc two given_is corners_are loops_are wraps_are areas_are surface_is frame_is options_are sense_is.
     let a = c.args in
-    let f = face_of_lem s a.corners.now a.given.now a.loops a.wraps.now a.frame a.surface a.options a.sense c.last_wrapping.result
+    let f = face_of_lem s a.corners.now a.given.now a.loops.now a.wraps.now a.frame a.surface a.options a.sense c.last_wrapping.result
     c.first_wrapping.result _ _
     acc two given_is corners_are loops_are wraps_are surface_is frame_is options_are sense_is c.last_wrapping.ensures c.number_of-a.ensures
     c.first_wrapping.ensures c.number_of-b.ensures in
@@ -20,7 +20,7 @@ returns-in-Ok c = λ s acc two given_is corners_are loops_are wraps_are areas_ar
 pub returns-in-Err : goal.returns-in-Err
 returns-in-Err c = λ s acc two given_is corners_are loops_are wraps_are areas_are surface_is frame_is options_are sense_is.
     let a = c.args in
-    let f = face_of_lem s a.corners.now a.given.now a.loops a.wraps.now a.frame a.surface a.options a.sense c.last_wrapping.result
+    let f = face_of_lem s a.corners.now a.given.now a.loops.now a.wraps.now a.frame a.surface a.options a.sense c.last_wrapping.result
     c.first_wrapping.result _ _
     acc two given_is corners_are loops_are wraps_are surface_is frame_is options_are sense_is c.last_wrapping.ensures c.number_of-a.ensures
     c.first_wrapping.ensures c.number_of-b.ensures in

@@ -42,11 +42,11 @@ slice_bounds-check_rings-end-2 c = sym
     (length-take-le _ _ (let b = counts_told _ _ _ _ c.read_counts.ensures _ c.read_many-l.ensures in omega (arith, c.given-2-1.given)))
 
 pub slice_bounds-wraps-end : goal.slice_bounds-wraps-end
-slice_bounds-wraps-end c = let b = counts_told _ _ _ _ c.read_counts.ensures _ c.read_many-l.ensures in omega (arith, c.wraps-2-1.given)
+slice_bounds-wraps-end c = let b = counts_told _ _ _ _ c.read_counts.ensures _ c.read_many-l.ensures in omega arith
 
 pub slice_bounds-check_rings-end-3 : goal.slice_bounds-check_rings-end-3
 slice_bounds-check_rings-end-3 c = sym
-    (length-take-le _ _ (let b = counts_told _ _ _ _ c.read_counts.ensures _ c.read_many-l.ensures in omega (arith, c.wraps-2-1.given)))
+    (length-take-le _ _ (let b = counts_told _ _ _ _ c.read_counts.ensures _ c.read_many-l.ensures in omega arith))
 
 pub returns-in-Refuses : goal.returns-in-Refuses
 returns-in-Refuses c = λ a.
@@ -54,8 +54,8 @@ returns-in-Refuses c = λ a.
     c.read_corners.ensures refl _ c.read_many-e.ensures in
     let many = counts_many _ _ _ _ c.read_counts.ensures c.given-2-1.given _ c.read_many-l.ensures in
     let surface_is = surface_in_lem _ a _ _ _ read _ c.kind.ensures _ _ c.at.ensures c.at-2.ensures _ c.surface_of-surface.ensures in
-    let wraps_are = wraps_in_lem _ a _ _ _ read _ surface_is _ c.u_period.ensures _ c.measure_loops-loops.ensures _ many _ _ (omega arith)
-    c.wraps_of.ensures in
+    let wraps_are = wraps_in_lem _ a _ _ _ read _ surface_is _ c.u_period.ensures _ c.measure_loops-loops.ensures _ many _
+    c.wraps_of-wraps.ensures in
     refused_as _ ring_conditions (strip_conditions version1) _
     (c.check_rings-found.ensures ∙ rings_judged _ _ (held _ a _ _ _ read) _ wraps_are _ c.kind-2.ensures) _ _ c.in-Refuses.is _ _ _
 
@@ -76,20 +76,20 @@ slice_bounds-fill_path-end-3 c = sym
     (length-take-le _ _ (let b = reals_told _ _ _ _ c.read_corners.ensures _ c.read_many-e.ensures in omega (arith, c.corners-2-1.given)))
 
 pub slice_bounds-wraps-end-2 : goal.slice_bounds-wraps-end-2
-slice_bounds-wraps-end-2 c = let b = counts_told _ _ _ _ c.read_counts.ensures _ c.read_many-l.ensures in omega (arith, c.wraps-2-1.given)
+slice_bounds-wraps-end-2 c = let b = counts_told _ _ _ _ c.read_counts.ensures _ c.read_many-l.ensures in omega arith
 
-pub slice_bounds-fill_path-end-4 : goal.slice_bounds-fill_path-end-4
-slice_bounds-fill_path-end-4 c = sym
-    (length-take-le _ _ (let b = counts_told _ _ _ _ c.read_counts.ensures _ c.read_many-l.ensures in omega (arith, c.wraps-2-1.given)))
+pub slice_bounds-fill_path-end-5 : goal.slice_bounds-fill_path-end-5
+slice_bounds-fill_path-end-5 c = sym
+    (length-take-le _ _ (let b = counts_told _ _ _ _ c.read_counts.ensures _ c.read_many-l.ensures in omega arith))
 
 pub slice_bounds-measured-end : goal.slice_bounds-measured-end
 slice_bounds-measured-end c =
     let b = counts_told _ _ _ _ c.read_counts.ensures _ c.read_many-l.ensures in
-    omega (arith, c.measured-2-1.given)
+    omega arith
 
-pub slice_bounds-fill_path-end-5 : goal.slice_bounds-fill_path-end-5
-slice_bounds-fill_path-end-5 c = sym
-    (length-take-le _ _ (let b = counts_told _ _ _ _ c.read_counts.ensures _ c.read_many-l.ensures in omega (arith, c.measured-2-1.given)))
+pub slice_bounds-fill_path-end-6 : goal.slice_bounds-fill_path-end-6
+slice_bounds-fill_path-end-6 c = sym
+    (length-take-le _ _ (let b = counts_told _ _ _ _ c.read_counts.ensures _ c.read_many-l.ensures in omega arith))
 
 pub returns : goal.returns
 returns c = λ a.
@@ -97,10 +97,10 @@ returns c = λ a.
     c.read_corners.ensures refl _ c.read_many-e.ensures in
     let many = counts_many _ _ _ _ c.read_counts.ensures c.given-2-1.given _ c.read_many-l.ensures in
     let surface_is = surface_in_lem _ a _ _ _ read _ c.kind.ensures _ _ c.at.ensures c.at-2.ensures _ c.surface_of-surface.ensures in
-    let wraps_are = wraps_in_lem _ a _ _ _ read _ surface_is _ c.u_period.ensures _ c.measure_loops-loops.ensures _ many _ _ (omega arith)
-    c.wraps_of.ensures in
-    let areas_are = areas_in _ a _ _ _ read _ surface_is _ c.u_period.ensures _ c.measure_loops-loops.ensures _ many _ _ (omega arith)
-    c.areas_of.ensures in
+    let wraps_are = wraps_in_lem _ a _ _ _ read _ surface_is _ c.u_period.ensures _ c.measure_loops-loops.ensures _ many _
+    c.wraps_of-wraps.ensures in
+    let areas_are = areas_in _ a _ _ _ read _ surface_is _ c.u_period.ensures _ c.measure_loops-loops.ensures _ many _
+    c.areas_of-measured.ensures in
     let found = c.check_rings-found.ensures ∙ rings_judged _ _ (held _ a _ _ _ read) _ wraps_are _ c.kind-2.ensures in
     let passed = c.in_default.is in
     filled_as _ ring_conditions (strip_conditions version1) _ found passed _ _ _ _

@@ -18,7 +18,7 @@ pub loop-i-preserved : goal.loop-i-preserved
 loop-i-preserved c = let inv = c.loop-i.invariant in (
   inv.0,
   inv.1,
-  recording_turn _ _ _ _ _ _ _ _ _ inv.2 c.loop-i-test.true (c.piece_end-to.ensures ∙ ap (min _) inv.0) c.with_part-next.ensures,
+  recording_turn _ _ _ _ _ _ _ _ _ inv.2 c.loop-i-test.true (c.piece_end-to.ensures ∙ ap (min _) inv.0) c.measured_part.ensures,
 )
 
 pub returns : goal.returns

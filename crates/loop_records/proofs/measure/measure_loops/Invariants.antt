@@ -1,4 +1,4 @@
-use Prim.Native.Nat.{◌-◌, ◌/◌}
+use Prim.Native.Nat.{◌/◌}
 use mathlib.Core.Path.{◌≡◌}
 use lib.ListN.{length}
 use Rattle.tables.specs.Rows.{rows}
@@ -9,6 +9,3 @@ abbrev pub invariant-loop-i : goal.invariant-loop-i
 invariant-loop-i l =
     (l.n ≡ length (rows l.t)) × (length (rows l.t) ≡ length l.t / 5) × Recording l.period l.counts (rows l.t) l.initial.loops l.loops
     l.from l.i
-
-abbrev pub decreases-loop-i : goal.decreases-loop-i
-decreases-loop-i l = length l.counts - l.i
