@@ -7,6 +7,7 @@ use native.Mathlib.Nat.{not-suc-le-zero}
 use native.Mathlib.Omega.{arith}
 use lib.Ieee.{Float, nan, lt}
 use lib.ListN.{length, get_or, length-map}
+use Rattle.std.specs.Prelude.{unwrap_or}
 use Rattle.numbers.specs.Order.{abs_of}
 use Rattle.numbers.specs.declared.math.Vec3.{Vec3}
 use Rattle.lists.specs.Elements.{All, none, and}
@@ -30,7 +31,7 @@ passing-below test (suc n) = by_test (test n) (all_higher n (suc n) (omega arith
     by_test true earlier = let last : n < suc n = omega arith in all_append earlier (and last none)
     by_test false earlier = rw (append-nil (passing test n)) earlier
 
-one_below : (is : List ℕ) (otherwise n : ℕ) → All (Below n) is → otherwise < n → the_one is otherwise < n
+one_below : (is : List ℕ) (otherwise n : ℕ) → All (Below n) is → otherwise < n → unwrap_or (the_one is) otherwise < n
 one_below [] otherwise n a h = h
 one_below (i ∷ []) otherwise n (and p a) h = p
 one_below (i ∷ j ∷ is) otherwise n a h = h

@@ -1,13 +1,12 @@
 -- The loops that stand one behind the other in a list, found again by how many elements stand before them.
-use Prim.Native.Nat.{ℕ, zero, suc, ◌+◌, ◌-◌, ◌*◌, ◌≤◌, ◌<◌, min}
+use Prim.Native.Nat.{ℕ, zero, suc, ◌+◌, ◌-◌, ◌≤◌, ◌<◌, min}
 use mathlib.Core.Path.{◌≡◌, refl, sym, ap, ◌∙◌}
 use mathlib.Core.List.{List, [], ◌∷◌, ◌++◌, map, flatten, append_assoc, append-nil}
 use native.Mathlib.Decide.{dec_le}
 use native.Mathlib.Numerals.{add-one}
 use native.Mathlib.Omega.{arith}
-use lib.Ieee.{Float}
 use lib.ListN.{length, get_or, take, drop, length-append, length-take, length-drop, take-append-drop}
-use lib.Seq.{take-suc, take_all, take_at, drop_at, length-take-le}
+use lib.Seq.{take-suc, take_all, take_at, drop_at}
 use Rattle.numbers.specs.declared.math.Vec3.{Vec3}
 use Rattle.lists.specs.Pieces.{pieces}
 use Rattle.lists.specs.Placed.{placed}
@@ -15,11 +14,11 @@ use Rattle.lists.proofs.Pieces.{Cutting, cutting, cutting_turn, cutting_piece, l
 use Rattle.lists.specs.Parts.{part_of}
 use Rattle.tables.specs.Corners.{Corners}
 use Rattle.tables.specs.Rows.{rows}
+use Rattle.tables.specs.declared.corners.Corner.{Corner as Held}
 use Rattle.tables.proofs.PartRows.{rows-placed}
 use Rattle.tables.proofs.Rows.{length-rows, rows_take, rows_drop, rows_append}
 use Rattle.closed_region.proofs.MovedHoles.{flatten_snoc}
 use Rattle.closed_face.specs.First.{part_first}
-use Rattle.closed_face.proofs.first.Laws.{length-first}
 
 module _ {A : Type 0} where
   pub flatten_append : (xs ys : List (List A)) → flatten (xs ++ ys) ≡ flatten xs ++ flatten ys
@@ -91,27 +90,27 @@ module _ {A : Type 0} where
 
 -- ---- where a loop begins
 
-module _ (t : List Float) (counts : List ℕ) (k n m : ℕ) where
+module _ (t : List Held) (counts : List ℕ) (k m : ℕ) where
   abbrev ls : List (Corners Vec3)
   ls = pieces counts (rows t)
 
   pub record Beginning (from i : ℕ) : Type 0 where
-    pub count : n ≡ length (rows t)
     pub least : m ≡ min (length counts) k
     pub far : i ≤ m
+    pub low : from ≤ length t
     pub cut : Cutting counts (rows t) from i
     pub at : length (flatten (take i ls)) ≡ from
 
-  pub beginning : n ≡ length (rows t) → m ≡ min (length counts) k → Beginning 0 0
+  pub beginning : m ≡ min (length counts) k → Beginning 0 0
   unfolding flatten
-  beginning e l = record { count = e; least = l; far = omega arith; cut = cutting counts (rows t); at = refl }
+  beginning l = record { least = l; far = omega arith; low = omega arith; cut = cutting counts (rows t); at = refl }
 
   module _ (from i : ℕ) (b : Beginning from i) where
-    pub beginning_turn : (to : ℕ) → i < m → to ≡ min (from + get_or counts i 0) n → Beginning to (i + 1)
+    pub beginning_turn : (to : ℕ) → i < m → to ≡ min (from + get_or counts i 0) (length t) → Beginning to (i + 1)
     beginning_turn to h e = record {
-      count = b.count;
       least = b.least;
       far = omega arith;
+      low = omega arith;
       cut = cutting_turn counts (rows t) from to i b.cut below to_is;
       at =
           ap (λ (j : ℕ). length (flatten (take j ls))) (add-one i) ∙ ap (λ (l : List (Corners Vec3)). length (flatten l)) (take-suc ls i [] (let p = length-pieces counts (rows t) in let q = below in omega arith))
@@ -123,19 +122,17 @@ module _ (t : List Float) (counts : List ℕ) (k n m : ℕ) where
         below = let l = b.least in omega arith
 
         to_is : to ≡ min (from + get_or counts i 0) (length (rows t))
-        to_is = e ∙ ap (min (from + get_or counts i 0)) b.count
+        to_is = e ∙ ap (min (from + get_or counts i 0)) (sym (length-rows t))
 
         piece : get_or ls i [] ≡ take (to - from) (drop from (rows t))
         piece = cutting_piece counts (rows t) from to i b.cut below to_is
 
-    pub beginning_end : m ≤ i → (from ≡ length (flatten (take k ls))) × (5 * from ≤ length t)
+    pub beginning_end : m ≤ i → (from ≡ length (flatten (take k ls))) × (from ≤ length t)
     beginning_end h =
         let p = length-pieces counts (rows t) in
         let l = b.least in
         let f = b.far in
-        let low = b.cut.low in
-        let r = length-rows t in
-        (sym b.at ∙ ap (λ (x : List (Corners Vec3)). length (flatten x)) (by_room (dec_le k (length counts))), omega arith)
+        (sym b.at ∙ ap (λ (x : List (Corners Vec3)). length (flatten x)) (by_room (dec_le k (length counts))), b.low)
       where
         by_room : Dec (k ≤ length counts) → take i ls ≡ take k ls
         by_room (yes g) = let l = b.least in let f = b.far in let e : i ≡ k = omega arith in ap (λ (j : ℕ). take j ls) e
@@ -147,19 +144,12 @@ module _ (t : List Float) (counts : List ℕ) (k n m : ℕ) where
 
 -- ---- one loop before the others, in a table
 
-rows-first : (from m end : ℕ) (s : List Float) → length s ≡ 5 * end → from + m ≤ end → rows (part_first (5 * from) (5 * m) s) ≡ part_first from m (rows s)
+rows-first : (from m : ℕ) (s : List Held) → rows (part_first from m s) ≡ part_first from m (rows s)
 unfolding part_first part_of
-rows-first from m end s long low =
-    let d = length-drop (5 * from) s in
-    let a : length (take (5 * m) (drop (5 * from) s)) ≡ 5 * m = length-take-le (5 * m) (drop (5 * from) s) (omega arith) in
-    let b : length (take (5 * from) s) ≡ 5 * from = length-take-le (5 * from) s (omega arith) in
-    let j : 5 * from + 5 * m ≡ 5 * (from + m) = omega arith in
-    rows_append m (take (5 * m) (drop (5 * from) s)) (take (5 * from) s ++ drop (5 * from + 5 * m) s) a
-    ∙ (λ i. (rows_take m (drop (5 * from) s) ∙ ap (take m) (rows_drop from s)) i ++ rows_append from (take (5 * from) s) (drop (5 * from + 5 * m) s) b i)
-    ∙ (λ i. take m (drop from (rows s)) ++ (rows_take from s i ++ (ap (λ (k : ℕ). rows (drop k s)) j ∙ rows_drop (from + m) s) i))
+rows-first from m s = simp (rows_append, rows_take, rows_drop)
 
-module _ (t : List Float) (counts : List ℕ) (k from m end : ℕ) (o : Corners Vec3) (from_is : from ≡ length (flatten (take k (pieces counts (rows t))))) (o_is : o ≡ get_or (pieces counts (rows t)) k []) (m_is : m ≡ length o)
-    (end_is : end ≡ length (flatten (take (length counts) (pieces counts (rows t))))) (within : 5 * end ≤ length t) where
+module _ (t : List Held) (counts : List ℕ) (k from m end : ℕ) (o : List Held) (from_is : from ≡ length (flatten (take k (pieces counts (rows t))))) (o_is : rows o ≡ get_or (pieces counts (rows t)) k []) (m_is : m ≡ length o)
+    (end_is : end ≡ length (flatten (take (length counts) (pieces counts (rows t))))) where
   abbrev all : List (Corners Vec3)
   all = pieces counts (rows t)
 
@@ -167,22 +157,10 @@ module _ (t : List Float) (counts : List ℕ) (k from m end : ℕ) (o : Corners 
   end_all = end_is ∙ ap (λ (x : List (Corners Vec3)). length (flatten x)) (take_all (length counts) all (let p = length-pieces counts (rows t) in omega arith))
 
   m_all : m ≡ length (get_or all k [])
-  m_all = m_is ∙ ap length o_is
+  m_all = m_is ∙ sym (length-rows o) ∙ ap length o_is
 
-  pub sum_within : from + m ≤ end
-  sum_within =
-      let e = end_all in
-      let l : length (flatten all) ≡ length (flatten (take k all)) + length (get_or all k [] ++ flatten (drop (suc k) all)) = ap length (flat_split k all) ∙ length-append (flatten (take k all)) (get_or all k [] ++ flatten (drop (suc k) all)) in
-      let r = length-append (get_or all k []) (flatten (drop (suc k) all)) in
-      let f = from_is in
-      let g = m_all in
-      omega arith
-
-  pub first_is : (s d d' : List Float) → s ≡ part_of 0 (5 * end) t → d' ≡ placed 0 (part_first (5 * from) (5 * m) s) d → rows d' ≡ placed 0 (flatten (part_first k 1 all)) (rows d)
-  unfolding part_of
+  pub first_is : (s d d' : List Held) → s ≡ take end t → d' ≡ placed 0 (part_first from m s) d → rows d' ≡ placed 0 (flatten (part_first k 1 all)) (rows d)
   first_is s d d' s_is e =
-      let long : length s ≡ 5 * end = ap length s_is ∙ length-take-le (5 * end) t within in
-      let wide : length (part_first (5 * from) (5 * m) s) ≡ 5 * end = length-first (5 * from) (5 * m) s ∙ long in
       let flat : rows s ≡ flatten all = ap rows s_is ∙ rows_take end t ∙ front-pieces counts (rows t) end end_all in
-      ap rows e ∙ rows-placed 0 end (part_first (5 * from) (5 * m) s) d wide
-      ∙ ap (λ (w : Corners Vec3). placed 0 w (rows d)) (rows-first from m end s long sum_within ∙ ap (part_first from m) flat ∙ loops-first k all from m from_is m_all)
+      ap rows e ∙ rows-placed 0 (part_first from m s) d
+      ∙ ap (λ (w : Corners Vec3). placed 0 w (rows d)) (rows-first from m s ∙ ap (part_first from m) flat ∙ loops-first k all from m from_is m_all)

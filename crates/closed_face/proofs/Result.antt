@@ -1,4 +1,4 @@
--- What the closed path leaves: for every argument, and for a face the loops that 01 asks for.
+-- What the closed path leaves of a face: the loops that 01 asks for.
 use Prim.Native.Nat.{ℕ, suc, ◌+◌, ◌≤◌, ◌<◌}
 use mathlib.Core.Path.{◌≡◌, refl, sym, ap, ◌∙◌}
 use mathlib.Core.Bool.{Bool, true, false, cond, ◌&&◌}
@@ -16,7 +16,6 @@ use Rattle.lists.specs.Placed.{placed}
 use Rattle.lists.proofs.Pieces.{length-pieces}
 use Rattle.lists.proofs.Placed.{placed-fits, front-placed}
 use Rattle.loops.specs.Area.{area_of}
-use Rattle.lists.specs.Parts.{part_of}
 use Rattle.tables.specs.Corners.{Corners, us, vs, positions, corners_from}
 use Rattle.tables.specs.Moves.{moved_by}
 use Rattle.tables.specs.declared.moves.Move.TheVariants.{Up}
@@ -33,37 +32,6 @@ use Rattle.call.proofs.Outermost.{outer_below}
 use Rattle.closed_face.specs.First.{part_first}
 use Rattle.closed_face.specs.Face.{outer_found, rows_then, areas_left, IsFace}
 use Rattle.closed_face.proofs.Loops.{first-between, pieces-again, pieces_fit}
-
--- ---- the steps of the path, one after the other
-
-module _ (counts : List ℕ) (r : Corners Vec3) (areas : List Float) (room : ℕ) (pu pv : Float) where
-  pub steps : (outer : ℕ) (B : Type 0) (b : B) (r' : Corners Vec3) (a' : List Float) (o o' : Corners Vec3) (n n' : List ℕ) (own x x' : List Float)
-      → outer ≡ outer_among (pieces counts r) areas room
-      → (r' ≡ rephased_rows outer pu pv (pieces counts r) areas r) × (a' ≡ rephased_areas outer pu pv (pieces counts r) areas)
-      → o' ≡ placed 0 (flatten (part_first outer 1 (pieces counts r'))) o
-      → n' ≡ cond (ltb outer (length counts)) (placed 0 (part_first outer 1 counts) n) n
-      → own ≡ part_of 0 (length counts) a' → x' ≡ placed 0 (part_first outer 1 own) x
-      → (r' ≡ rows_then counts r areas room pu pv) × ((a' ≡ areas_left counts r areas room pu pv) × (B
-      × ((o' ≡ placed 0 (flatten (part_first (outer_found counts r areas room) 1 (pieces counts r'))) o)
-      × ((n' ≡ cond (ltb (outer_found counts r areas room) (length counts)) (placed 0 (part_first (outer_found counts r areas room) 1 counts) n) n)
-      × (x' ≡ placed 0 (part_first (outer_found counts r areas room) 1 (take (length counts) a')) x)))))
-  unfolding part_of
-  steps outer B b r' a' o o' n n' own x x' e left o_is n_is own_is x_is = (
-    left.0 ∙ (λ i. rephased_rows (e i) pu pv (pieces counts r) areas r),
-    (
-      left.1 ∙ (λ i. rephased_areas (e i) pu pv (pieces counts r) areas),
-      (
-        b,
-        (
-          o_is ∙ (λ i. placed 0 (flatten (part_first (e i) 1 (pieces counts r'))) o),
-          (
-            n_is ∙ (λ i. cond (ltb (e i) (length counts)) (placed 0 (part_first (e i) 1 counts) n) n),
-            x_is ∙ (λ i. placed 0 (part_first (e i) 1 (own_is i)) x),
-          ),
-        ),
-      ),
-    ),
-  )
 
 -- ---- a hole by its corners is the hole by its columns
 

@@ -1,71 +1,71 @@
 // The closed path: `closed_region`, then `rephase_holes`.
-ghost use Rattle.std.specs.Prelude.{◌≡◌, cond, ◌*◌, ◌≤◌, ltb, length, take};
+ghost use Rattle.std.specs.Prelude.{◌≡◌, cond, ◌≤◌, ltb, length, take};
 ghost use mathlib.Core.List.{map, flatten};
 ghost use Rattle.lists.specs.Pieces.{pieces};
 ghost use Rattle.lists.specs.Placed.{placed};
 ghost use Rattle.surfaces.specs.Domains.{period_length};
 ghost use Rattle.tables.specs.Rows.{rows};
-ghost use Rattle.closed_region.specs.Loops.{box_in, boxes_in};
+ghost use Rattle.closed_region.specs.Loops.{box_in};
 ghost use Rattle.closed_face.specs.First.{part_first};
 ghost use Rattle.closed_face.specs.Face.{outer_found, rows_then, areas_left};
 
-use super::first::{count_first, part_first};
+use super::first::part_first;
+use closed_region::boxes::Bounds;
 use closed_region::holes::rephase_holes;
 use closed_region::region::closed_region;
 use surfaces::surface::Period;
-use tables::corners::count;
+use tables::corners::Corner;
 use tables::pieces::loop_of;
 use tables::slices::{part, piece_end, shorter};
 
 // How many rows the first k loops have: where loop k begins.
-fn begin_of(t: &[f64], counts: &[usize], k: usize) -> usize
-    ensures { (result ≡ length (flatten (take k (pieces counts.now (rows t.now))))) × (5 * result ≤ length t.now) }
+fn begin_of(t: &[Corner], counts: &[usize], k: usize) -> usize
+    ensures { (result ≡ length (flatten (take k (pieces counts.now (rows t.now))))) × (result ≤ length t.now) }
 {
-    let n = count(t);
-    let m = shorter(counts.len(), k);
     let mut from = 0;
-    let mut i = 0;
-    while i < m {
-        from = piece_end(n, from, counts[i]);
-        i += 1;
+    for i in 0..shorter(counts.len(), k) {
+        from = piece_end(t.len(), from, counts[i]);
     }
     from
 }
 
 // The rows of loop k, then those of all others in their order, into the front of out.
-pub fn loop_first(t: &[f64], counts: &[usize], k: usize, out: &mut [f64])
+pub fn loop_first(t: &[Corner], counts: &[usize], k: usize, out: &mut [Corner])
     ensures { rows out.new ≡ placed 0 (flatten (part_first k 1 (pieces counts.now (rows t.now)))) (rows out.old) }
 {
     let from = begin_of(t, counts, k);
-    let m = count(loop_of(t, counts, k));
+    let m = loop_of(t, counts, k).len();
     let end = begin_of(t, counts, counts.len());
-    part_first(part(t, 0, 5 * end), 5 * from, 5 * m, out);
+    part_first(&t[..end], from, m, out);
 }
 
 // The outer loop, then the holes in their order, into the front of out, out_counts and out_areas.
 // `areas` are those of the loops as they are given. The holes are moved in t, the areas of those that
 // moved are worked out anew, and the boxes are written too.
 pub fn closed_face(
-    t: &mut [f64],
+    t: &mut [Corner],
     counts: &[usize],
     areas: &mut [f64],
-    boxes: &mut [f64],
+    boxes: &mut [Bounds],
     u: Period,
     v: Period,
-    out: &mut [f64],
+    out: &mut [Corner],
     out_counts: &mut [usize],
     out_areas: &mut [f64],
 )
-    ensures t_after { rows t.new ≡ rows_then counts.now (rows t.old) areas.old (length (boxes_in boxes.old)) (period_length u) (period_length v) }
-    ensures areas_after { areas.new ≡ areas_left counts.now (rows t.old) areas.old (length (boxes_in boxes.old)) (period_length u) (period_length v) }
-    ensures boxes_after { boxes_in boxes.new ≡ placed 0 (map box_in (pieces counts.now (rows t.old))) (boxes_in boxes.old) }
-    ensures out_after { rows out.new ≡ placed 0 (flatten (part_first (outer_found counts.now (rows t.old) areas.old (length (boxes_in boxes.old))) 1 (pieces counts.now (rows t.new)))) (rows out.old) }
-    ensures out_counts_after { out_counts.new ≡ cond (ltb (outer_found counts.now (rows t.old) areas.old (length (boxes_in boxes.old))) (length counts.now)) (placed 0 (part_first (outer_found counts.now (rows t.old) areas.old (length (boxes_in boxes.old))) 1 counts.now) out_counts.old) out_counts.old }
-    ensures out_areas_after { out_areas.new ≡ placed 0 (part_first (outer_found counts.now (rows t.old) areas.old (length (boxes_in boxes.old))) 1 (take (length counts.now) areas.new)) out_areas.old }
+    ensures t_after { rows t.new ≡ rows_then counts.now (rows t.old) areas.old (length boxes.old) (period_length u) (period_length v) }
+    ensures areas_after { areas.new ≡ areas_left counts.now (rows t.old) areas.old (length boxes.old) (period_length u) (period_length v) }
+    ensures boxes_after { boxes.new ≡ placed 0 (map box_in (pieces counts.now (rows t.old))) boxes.old }
+    ensures out_after { rows out.new ≡ placed 0 (flatten (part_first (outer_found counts.now (rows t.old) areas.old (length boxes.old)) 1 (pieces counts.now (rows t.new)))) (rows out.old) }
+    ensures out_counts_after { out_counts.new ≡ cond (ltb (outer_found counts.now (rows t.old) areas.old (length boxes.old)) (length counts.now)) (placed 0 (part_first (outer_found counts.now (rows t.old) areas.old (length boxes.old)) 1 counts.now) out_counts.old) out_counts.old }
+    ensures out_areas_after { out_areas.new ≡ placed 0 (part_first (outer_found counts.now (rows t.old) areas.old (length boxes.old)) 1 (take (length counts.now) areas.new)) out_areas.old }
 {
     let outer = closed_region(t, counts, areas, boxes);
     rephase_holes(t, counts, areas, outer, u, v);
     loop_first(t, counts, outer, out);
-    count_first(counts, outer, out_counts);
+    // No loop is the outer one where there are none.
+    if outer < counts.len() {
+        part_first(counts, outer, 1, out_counts);
+    }
     part_first(part(areas, 0, counts.len()), outer, 1, out_areas);
 }

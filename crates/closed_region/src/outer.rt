@@ -24,17 +24,14 @@ pub fn longer_side(b: Bounds) -> f64
     max(b.uhi - b.ulo, b.vhi - b.vlo)
 }
 
+#[tactic(auto, unfolding(crate::specs::Outer::encloses))]
 pub fn encloses_within(slack: f64, b: Bounds, o: Bounds) -> bool
     ensures { result ≡ encloses slack b o }
 {
-    if b.ulo <= o.ulo + slack {
-        if b.uhi >= o.uhi - slack {
-            if b.vlo <= o.vlo + slack {
-                return b.vhi >= o.vhi - slack;
-            }
-        }
-    }
-    false
+    b.ulo <= o.ulo + slack
+        && b.uhi >= o.uhi - slack
+        && b.vlo <= o.vlo + slack
+        && b.vhi >= o.vhi - slack
 }
 
 // The outermost ends of no boxes: a lower end that is no NaN is at most +inf, an upper one at least
@@ -43,10 +40,10 @@ pub fn empty_box() -> Bounds
     ensures { result ≡ empty_box }
 {
     Bounds {
-        ulo: 1.0 / 0.0,
-        uhi: -1.0 / 0.0,
-        vlo: 1.0 / 0.0,
-        vhi: -1.0 / 0.0,
+        ulo: f64::INFINITY,
+        uhi: f64::NEG_INFINITY,
+        vlo: f64::INFINITY,
+        vhi: f64::NEG_INFINITY,
     }
 }
 
@@ -63,6 +60,7 @@ pub fn hull(a: Bounds, b: Bounds) -> Bounds
 }
 
 // How much a box adds to the number of those that none can enclose.
+#[tactic(auto, unfolding(crate::specs::ByOutermost::one_if_unenclosable))]
 fn one_if_unenclosable(slack: f64, b: Bounds) -> usize
     ensures { result ≡ one_if_unenclosable slack b }
 {
@@ -71,13 +69,12 @@ fn one_if_unenclosable(slack: f64, b: Bounds) -> usize
 
 // Whether b, one of two or more boxes, encloses all others: it encloses the outermost ends, and none
 // but b itself is unenclosable.
+#[tactic(auto, unfolding(crate::specs::ByOutermost::encloses_outermost))]
 pub fn encloses_outermost(slack: f64, outermost: Outermost, b: Bounds) -> bool
     ensures { result ≡ encloses_outermost slack outermost b }
 {
-    if encloses_within(slack, b, outermost.ends) {
-        return outermost.unenclosable == one_if_unenclosable(slack, b);
-    }
-    false
+    encloses_within(slack, b, outermost.ends)
+        && outermost.unenclosable == one_if_unenclosable(slack, b)
 }
 
 pub fn last_largest(areas: &[f64]) -> usize

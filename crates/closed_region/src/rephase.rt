@@ -16,8 +16,5 @@ pub struct Branch {
 pub fn stays(su: f64, sv: f64) -> bool
     ensures { result ≡ eq su plus_zero && eq sv plus_zero }
 {
-    if su == 0.0 {
-        return sv == 0.0;
-    }
-    false
+    su == 0.0 && sv == 0.0
 }

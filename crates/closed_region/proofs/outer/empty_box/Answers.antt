@@ -1,7 +1,7 @@
-use mathlib.Core.Path.{refl}
-use lib.Ieee.{div, neg, of_bits}
+use Rattle.std.proofs.Common.{refl}
+use lib.Ieee.{of_bits}
 use Rattle.closed_region.proofs.outer.empty_box.Goals as goal
 
 pub returns : goal.returns
-unfolding div neg of_bits
+unfolding of_bits
 returns c = refl
