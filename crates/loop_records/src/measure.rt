@@ -1,6 +1,6 @@
 // A record of each loop of a face. The loops stand one behind the other in a table, and `counts` says
 // how many points each has. Where the counts run past the end, a loop is what is left.
-ghost use Rattle.std.specs.Prelude.{◌≡◌, ◌-◌, ◌≤◌, length, take, drop, replicate};
+ghost use Rattle.std.specs.Prelude.{◌≡◌, replicate};
 ghost use Rattle.lists.specs.Pieces.{pieces};
 ghost use Rattle.lists.specs.Placed.{placed};
 ghost use Rattle.tables.specs.Corners.{us};
@@ -11,46 +11,35 @@ ghost use Rattle.loop_records.specs.Loops.{record_of, records_from};
 use super::{LoopRecord, no_loop};
 use loops::rows::{net_wrap, signed_area};
 use surfaces::surface::Period;
-use tables::corners::count;
+use tables::corners::Corner;
 use tables::slices::piece_end;
 
 // The record of a loop that begins at row `start` of the face's table.
-fn measured(t: &[f64], start: usize, period: Period) -> LoopRecord
+fn measured(t: &[Corner], start: usize, period: Period) -> LoopRecord
     ensures { result ≡ record_of period start (rows t.now) }
 {
     let wrap = net_wrap(t, period);
     LoopRecord {
         start,
-        count: count(t),
+        count: t.len(),
         wrap,
         travel: wrap.signum(),
         area: signed_area(t),
     }
 }
 
-// The same of the rows `from` to `to`.
-fn measured_part(t: &[f64], from: usize, to: usize, period: Period) -> LoopRecord
-    requires { (from ≤ to) × (to ≤ length (rows t.now)) }
-    ensures { result ≡ record_of period from (take (to - from) (drop from (rows t.now))) }
-{
-    let a = 5 * from;
-    let e = 5 * to;
-    measured(&t[a..e], from, period)
-}
-
 // A record for each loop, and none where there are more loops than the list has records.
-pub fn measure_loops(t: &[f64], counts: &[usize], period: Period) -> [LoopRecord; 16]
+pub fn measure_loops(t: &[Corner], counts: &[usize], period: Period) -> [LoopRecord; 16]
     ensures { result ≡ placed 0 (records_from period 0 (pieces counts.now (rows t.now))) (replicate 16 no_loop) }
 {
     let mut loops = [no_loop(); 16];
     if counts.len() > 16 {
         return loops;
     }
-    let n = count(t);
     let mut from = 0;
-    for (i, rows) in counts.iter().enumerate() {
-        let to = piece_end(n, from, *rows);
-        loops[i] = measured_part(t, from, to, period);
+    for (i, points) in counts.iter().enumerate() {
+        let to = piece_end(t.len(), from, *points);
+        loops[i] = measured(&t[from..to], from, period);
         from = to;
     }
     loops

@@ -6,10 +6,11 @@ ghost use Rattle.loop_records.specs.Ring.{taken};
 
 use super::{LoopRecord, no_loop};
 use tables::copies::copy_rows;
+use tables::corners::Corner;
 use tables::pieces::part_of;
 
 // The rows from `start` on, `count` of them, into the front of dst.
-fn copy_ring(dst: &mut [f64], t: &[f64], start: usize, count: usize)
+fn copy_ring(dst: &mut [Corner], t: &[Corner], start: usize, count: usize)
     ensures { rows dst.new ≡ taken start count (rows t.now) (rows dst.old) }
 {
     copy_rows(dst, 0, part_of(t, start, count));
@@ -17,7 +18,7 @@ fn copy_ring(dst: &mut [f64], t: &[f64], start: usize, count: usize)
 
 // Loop i into the front of dst, and its record. Past the end there is no loop, and its record is that
 // of no corners.
-pub fn ring_of(dst: &mut [f64], t: &[f64], loops: &[LoopRecord], i: usize) -> LoopRecord
+pub fn ring_of(dst: &mut [Corner], t: &[Corner], loops: &[LoopRecord], i: usize) -> LoopRecord
     ensures { (result ≡ get_or loops.now i no_loop)
         × (rows dst.new ≡ taken result.start result.count (rows t.now) (rows dst.old)) }
 {
