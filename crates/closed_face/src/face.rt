@@ -12,7 +12,6 @@ ghost use Rattle.closed_face.specs.Face.{outer_found, rows_then, areas_left};
 use super::first::{count_first, part_first};
 use closed_region::holes::rephase_holes;
 use closed_region::region::closed_region;
-use surfaces::surface::Period;
 use tables::corners::count;
 use tables::pieces::loop_of;
 use tables::slices::{part, piece_end, shorter};
@@ -50,8 +49,8 @@ pub fn closed_face(
     counts: &[usize],
     areas: &mut [f64],
     boxes: &mut [f64],
-    u: Period,
-    v: Period,
+    u: Option<f64>,
+    v: Option<f64>,
     out: &mut [f64],
     out_counts: &mut [usize],
     out_areas: &mut [f64],

@@ -4,7 +4,7 @@ ghost use Rattle.closed_region.specs.Outer.{side_of, encloses, last_largest};
 ghost use Rattle.closed_region.specs.ByOutermost.{empty_box, hull_of, one_if_unenclosable, encloses_outermost};
 
 use super::boxes::Bounds;
-use numbers::order::{abs, max, min};
+use numbers::order::{max, min};
 
 // What one pass over the boxes finds: the outermost ends of the boxes that some box can enclose, and
 // the number of those that none can. Within a slack that is not below 0 none encloses a box that does
@@ -86,7 +86,7 @@ pub fn last_largest(areas: &[f64]) -> usize
     while i < areas.len() {
         let k = i;
         i += 1;
-        if !(abs(areas[k]) < abs(areas[best])) {
+        if !(areas[k].abs() < areas[best].abs()) {
             best = k;
         }
     }

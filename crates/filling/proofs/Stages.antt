@@ -7,12 +7,12 @@ use borrow.Author.Tests.{ne_eqb}
 use lib.IntN.{ℤ}
 use lib.Ieee.{Float, nan}
 use lib.ListN.{length, get_or, take, replicate}
+use Rattle.std.proofs.Common.{Option}
 use Rattle.lists.specs.Pieces.{pieces}
 use Rattle.lists.specs.Placed.{placed}
 use Rattle.lists.proofs.Pieces.{length-pieces}
 use Rattle.numbers.specs.declared.math.Frame.{Frame}
 use Rattle.surfaces.specs.declared.options.Resolved.{Resolved}
-use Rattle.surfaces.specs.declared.surface.Period.{Period}
 use Rattle.surfaces.specs.declared.surface.Surface.{Surface}
 use Rattle.surfaces.specs.Domains.{u_period}
 use Rattle.tables.specs.Rows.{rows}
@@ -161,10 +161,10 @@ module _ (s : List ℕ) (a : Accepted version1 s) (head : List Float) (counts : 
       e ∙ (λ i. surface_of (kind_is i) ((x_is ∙ ap (λ (h : List Float). get_or h 9 nan) read.head_is) i) ((y_is ∙ ap (λ (h : List Float). get_or h 10 nan) read.head_is) i))
       ∙ surface_read s
 
-  module _ (surface : Surface) (surface_is : surface ≡ surface_in s) (p : Period) (p_is : p ≡ u_period surface)
+  module _ (surface : Surface) (surface_is : surface ≡ surface_in s) (p : Option Float) (p_is : p ≡ u_period surface)
       (records : List LoopRecord) (recorded : records ≡ placed 0 (records_from p 0 (pieces counts (rows t))) (replicate 16 no_loop)) where
     pub records_in : records ≡ placed 0 (records_from (u_period surface) 0 (pieces counts (rows t))) (replicate 16 no_loop)
-    records_in = recorded ∙ ap (λ (q : Period). placed 0 (records_from q 0 (pieces counts (rows t))) (replicate 16 no_loop)) p_is
+    records_in = recorded ∙ ap (λ (q : Option Float). placed 0 (records_from q 0 (pieces counts (rows t))) (replicate 16 no_loop)) p_is
 
     module _ (l : ℕ) (l_is : l ≡ length counts) where
       -- what is read out of the records, of each loop: f of its record
@@ -176,7 +176,7 @@ module _ (s : List ℕ) (a : Accepted version1 s) (head : List Float) (counts : 
           let few = few-counts in
           wraps_shown s (pieces counts (rows t)) held l (l_is ∙ sym (length-pieces counts (rows t))) w₀ w (omega arith)
           (out (λ (one : LoopRecord). one.wrap) w₀ w e
-          ∙ ap (λ (q : Period). placed 0 (map (λ (one : LoopRecord). one.wrap) (records_from q 0 (pieces counts (rows t)))) w₀) (p_is ∙ ap u_period surface_is))
+          ∙ ap (λ (q : Option Float). placed 0 (map (λ (one : LoopRecord). one.wrap) (records_from q 0 (pieces counts (rows t)))) w₀) (p_is ∙ ap u_period surface_is))
 
       pub areas_in : (m₀ m : List Float) → 16 ≤ length m₀ → m ≡ placed 0 (map (λ (one : LoopRecord). one.area) (take l records)) m₀ → take l m ≡ map signed_area (pieces counts (rows t))
       areas_in m₀ m room e =

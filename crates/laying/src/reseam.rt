@@ -11,17 +11,17 @@ ghost use Rattle.bands.specs.Rings.{recut, onto, reseam};
 ghost use Rattle.laying.specs.Held.{face_in, reseam_within};
 
 use super::holes::{any_straddles, ends_into, onto_all};
-use numbers::order::is_finite;
 use rings::table_choices::{first_open_past, greatest_u, least_u};
 use rings::table_turns::recut_at;
 use seam::gap::{Gap, sort_spans, usable, widest_gap};
 use tables::moves::Move;
 
 // Whether the rings make a strip at all, from lo, their least u, on.
+#[tactic(auto, using(numbers::proofs::order::Laws::finite_is))]
 fn has_strip(lo: f64, first: &[f64], later: &[f64]) -> bool
     ensures { result ≡ (finite lo && lt lo (greatest_u (us (rows first.now)) (us (rows later.now)))) }
 {
-    if is_finite(lo) {
+    if lo.is_finite() {
         return lo < greatest_u(first, later);
     }
     false

@@ -14,8 +14,8 @@ use lib.Seq.{drop-cons}
 use mir.Syntax.{w32}
 use mir.Val.{SFits, to_z, of_z}
 use mir.Facts.{to_z-of_z}
+use Rattle.std.proofs.Common.{Option}
 use Rattle.numbers.specs.declared.math.Vec3.{Vec3}
-use Rattle.surfaces.specs.declared.surface.Period.{Period}
 use Rattle.lists.specs.Pieces.{pieces}
 use Rattle.lists.specs.Placed.{placed}
 use Rattle.lists.proofs.Filling.{Filling, front, front_turn, filling_end}
@@ -56,7 +56,7 @@ module _ (z : ℤ) (fits : SFits w32 z) where
 
 -- ---- one record
 
-pub record_is : (period : Period) (r : Corners Vec3) (start n : ℕ) (w t : ℤ) (a : Float) → n ≡ length r → SFits w32 w → SFits w32 t → w ≡ net_wrap period (us r)
+pub record_is : (period : Option Float) (r : Corners Vec3) (start n : ℕ) (w t : ℤ) (a : Float) → n ≡ length r → SFits w32 w → SFits w32 t → w ≡ net_wrap period (us r)
     → t ≡ sign_of (to_z w32 (of_z w32 w)) → a ≡ area_of (us r) (vs r)
     → record { start = start; count = n; wrap = to_z w32 (of_z w32 w); travel = to_z w32 (of_z w32 t); area = a } ≡ record_of period start r
 unfolding record_of
@@ -67,7 +67,7 @@ record_is period r start n w t a ne wf tf we te ae =
 
 -- ---- one for each loop
 
-module _ (period : Period) where
+module _ (period : Option Float) where
   pub length_records : (start : ℕ) (loops : List (Corners Vec3)) → length (records_from period start loops) ≡ length loops
   unfolding records_from
   length_records start [] = refl
@@ -82,7 +82,7 @@ module _ (period : Period) where
   unfolding records_from
   first-record start r loops = refl
 
-module _ (period : Period) (ns : List ℕ) (xs : Corners Vec3) (d₀ : List LoopRecord) where
+module _ (period : Option Float) (ns : List ℕ) (xs : Corners Vec3) (d₀ : List LoopRecord) where
   abbrev wanted : List LoopRecord
   wanted = records_from period 0 (pieces ns xs)
 
@@ -133,7 +133,7 @@ module _ (period : Period) (ns : List ℕ) (xs : Corners Vec3) (d₀ : List Loop
   recording_end d from i k h = filling_end 0 wanted d₀ d i k.fill (let l = length_wanted in omega arith)
 
 -- what is read out of the list, of each loop: f of its record
-pub read_out : {B : Type 0} (f : LoopRecord → B) (period : Period) (ns : List ℕ) (xs : Corners Vec3) (d : List LoopRecord) (b₀ b : List B) → length ns ≤ 16
+pub read_out : {B : Type 0} (f : LoopRecord → B) (period : Option Float) (ns : List ℕ) (xs : Corners Vec3) (d : List LoopRecord) (b₀ b : List B) → length ns ≤ 16
     → d ≡ placed 0 (records_from period 0 (pieces ns xs)) (replicate 16 no_loop) → b ≡ placed 0 (map f (take (length ns) d)) b₀
     → b ≡ placed 0 (map f (records_from period 0 (pieces ns xs))) b₀
 read_out f period ns xs d b₀ b few e r =

@@ -10,7 +10,6 @@ ghost use Rattle.loop_records.specs.Loops.{sign_of, record_of, records_from};
 
 use super::{LoopRecord, no_loop};
 use loops::rows::{net_wrap, signed_area};
-use surfaces::surface::Period;
 use tables::corners::count;
 use tables::slices::piece_end;
 
@@ -27,7 +26,7 @@ fn sign_of(wrap: i32) -> i32
 }
 
 // The record of a loop that begins at row `start` of the face's table.
-fn measured(t: &[f64], start: usize, period: Period) -> LoopRecord
+fn measured(t: &[f64], start: usize, period: Option<f64>) -> LoopRecord
     ensures { result ≡ record_of period start (rows t.now) }
 {
     let wrap = net_wrap(t, period);
@@ -41,7 +40,7 @@ fn measured(t: &[f64], start: usize, period: Period) -> LoopRecord
 }
 
 // One loop measured into the list.
-fn measure_loop(loops: &mut [LoopRecord], i: usize, t: &[f64], start: usize, period: Period)
+fn measure_loop(loops: &mut [LoopRecord], i: usize, t: &[f64], start: usize, period: Option<f64>)
     requires { i < length loops.old }
     ensures { loops.new ≡ set loops.old i (record_of period start (rows t.now)) }
 {
@@ -54,7 +53,7 @@ fn with_loop(
     i: usize,
     t: &[f64],
     start: usize,
-    period: Period,
+    period: Option<f64>,
 ) -> [LoopRecord; 16]
     requires { i < 16 }
     ensures { result ≡ set loops i (record_of period start (rows t.now)) }
@@ -71,7 +70,7 @@ fn with_part(
     t: &[f64],
     from: usize,
     to: usize,
-    period: Period,
+    period: Option<f64>,
 ) -> [LoopRecord; 16]
     requires { (i < 16) × (from ≤ to) × (to ≤ length (rows t.now)) }
     ensures { result ≡ set loops i (record_of period from (take (to - from) (drop from (rows t.now)))) }
@@ -82,7 +81,7 @@ fn with_part(
 }
 
 // A record for each loop, and none where there are more loops than the list has records.
-pub fn measure_loops(t: &[f64], counts: &[usize], period: Period) -> [LoopRecord; 16]
+pub fn measure_loops(t: &[f64], counts: &[usize], period: Option<f64>) -> [LoopRecord; 16]
     ensures { result ≡ placed 0 (records_from period 0 (pieces counts.now (rows t.now))) (replicate 16 no_loop) }
 {
     let mut loops = [no_loop(); 16];

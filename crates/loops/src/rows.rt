@@ -6,7 +6,6 @@ ghost use Rattle.loops.specs.Area.{area_of};
 ghost use Rattle.loops.specs.Wrap.{net_wrap, wrap_every};
 
 use super::wrap::turns_counted;
-use surfaces::surface::Period;
 use tables::corners::{count, u_at, v_at};
 
 // The row after row i of n, round the loop.
@@ -43,11 +42,11 @@ fn wrap_every(t: &[f64], p: f64) -> i32
     turns_counted((u_at(t, n - 1) - u_at(t, 0)) / p)
 }
 
-pub fn net_wrap(t: &[f64], period: Period) -> i32
+pub fn net_wrap(t: &[f64], period: Option<f64>) -> i32
     ensures { result ≡ net_wrap period (us (rows t.now)) }
 {
     match period {
-        Period::Every(p) => wrap_every(t, p),
-        Period::None => 0,
+        Some(p) => wrap_every(t, p),
+        None => 0,
     }
 }

@@ -6,10 +6,9 @@ use native.Mathlib.Omega.{arith}
 use lib.Ieee.{Float, nan}
 use lib.IntN.{ℤ, pos}
 use lib.ListN.{length, get_or, length-map}
+use Rattle.std.proofs.Common.{Option, Some, None}
 use Rattle.numbers.specs.Rounded.{◌⊕◌, ◌⊖◌, ◌⊗◌, ◌⊘◌}
 use Rattle.numbers.specs.declared.math.Vec3.{Vec3}
-use Rattle.surfaces.specs.declared.surface.Period.{Period}
-use Rattle.surfaces.specs.declared.surface.Period.TheVariants.{Every, None}
 use Rattle.tables.specs.Corners.{Corner, us, vs}
 use Rattle.tables.specs.Rows.{rows}
 use Rattle.tables.proofs.Taking.{count-u}
@@ -33,12 +32,12 @@ module _ (t : List Float) (n : ℕ) (e : n ≡ length (rows t)) where
         rw (p, q, m) (net_of_more (us (rows t)) period (omega (arith, count-u t n e)))
 
 -- by the period
-module _ (us : List Float) (period : Period) where
-  pub wraps-every : (p : Float) (r : ℤ) → period ≡ Every p → r ≡ wrap_every p us → r ≡ net_wrap period us
-  wraps-every p r e w = w ∙ sym (ap (λ (q : Period). net_wrap q us) e)
+module _ (us : List Float) (period : Option Float) where
+  pub wraps-every : (p : Float) (r : ℤ) → period ≡ Some p → r ≡ wrap_every p us → r ≡ net_wrap period us
+  wraps-every p r e w = w ∙ sym (ap (λ (q : Option Float). net_wrap q us) e)
 
   pub wraps-none : period ≡ None → pos 0 ≡ net_wrap period us
-  wraps-none e = sym (ap (λ (q : Period). net_wrap q us) e)
+  wraps-none e = sym (ap (λ (q : Option Float). net_wrap q us) e)
 
 module _ (t : List Float) (n : ℕ) where
   abbrev pub Adding : Float → ℕ → Type 0

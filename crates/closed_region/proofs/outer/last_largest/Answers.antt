@@ -9,8 +9,8 @@ loop-i-init c = laws.largest _
 
 pub loop-i-preserved-then-not-abs : goal.loop-i-preserved-then-not-abs
 loop-i-preserved-then-not-abs c = laws.largest_moves _ _ _ _ _ c.loop-i.invariant c.loop-i-test.true
-    c.abs.ensures c.abs-in-loop-i.ensures (not-true _ (ap not c.if-not-abs.true))
+    c.abs.ensures.value c.abs-in-loop-i.ensures.value (not-true _ (ap not c.if-not-abs.true))
 
 pub loop-i-preserved : goal.loop-i-preserved
 loop-i-preserved c = laws.largest_stays _ _ _ _ _ c.loop-i.invariant c.loop-i-test.true
-    c.abs.ensures c.abs-in-loop-i.ensures (not-false _ (ap not c.if-not-abs.false))
+    c.abs.ensures.value c.abs-in-loop-i.ensures.value (not-false _ (ap not c.if-not-abs.false))
