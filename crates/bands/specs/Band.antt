@@ -1,5 +1,5 @@
 -- The band between two rings: which is lower, and the strip less its repeats. The sentences are those of 01, "Bands".
-use Rattle.std.specs.Prelude.{Bool, cond, not, ◌&&◌, ◌||◌, List, map, Float}
+use Rattle.std.specs.Prelude.{Bool, cond, not, ◌&&◌, ◌||◌, List, map, Float, Option, Some, None}
 use Rattle.std.specs.Float.Ieee.{lt}
 use Rattle.numbers.specs.Rounded.{◌⊕◌}
 use Rattle.loops.specs.Repeats.{drop_repeats}
@@ -7,20 +7,18 @@ use Rattle.loops.specs.Mean.{mean_of}
 use Rattle.tables.specs.Corners.{Corner, Corners, vs, move_v}
 use Rattle.bands.specs.Given.{Loop, Given}
 use Rattle.bands.specs.Rings.{Face, laid, reseam, started}
-use Rattle.surfaces.specs.declared.surface.Period.{Period}
-use Rattle.surfaces.specs.declared.surface.Period.TheVariants.{Every, None}
 use Rattle.bands.specs.Strip.{Setting, strip}
 
 -- "Rings are ordered by mean v, equals as they stand; the torus swaps": whether the first ring is the lower one. `with₁` and `with₂` say whether the first
 -- and the later ring go with the face. Where v comes round, the one that does is lower if the other does not.
-unfoldable pub first_is_lower : Period → Bool → Bool → Float → Float → Bool
+unfoldable pub first_is_lower : Option Float → Bool → Bool → Float → Float → Bool
 first_is_lower None with₁ with₂ mean₁ mean₂ = not (lt mean₂ mean₁)
-first_is_lower (Every p) with₁ with₂ mean₁ mean₂ = cond (lt mean₂ mean₁) (not with₂ && with₁) (with₁ || not with₂)
+first_is_lower (Some p) with₁ with₂ mean₁ mean₂ = cond (lt mean₂ mean₁) (not with₂ && with₁) (with₁ || not with₂)
 
 -- "or lifts by travel": the upper ring's v, one period up where the band crosses v's seam
-unfoldable pub lift : Period → Bool → Bool → Float → Float → Float → Float
+unfoldable pub lift : Option Float → Bool → Bool → Float → Float → Float → Float
 lift None with_l with_u mean_l mean_u v = v
-lift (Every p) with_l with_u mean_l mean_u v = cond (with_l && (not with_u && lt mean_u mean_l)) (v ⊕ p) v
+lift (Some p) with_l with_u mean_l mean_u v = cond (with_l && (not with_u && lt mean_u mean_l)) (v ⊕ p) v
 
 module _ {A : Type 0} where
   abbrev pub pick : Bool → Face A → Corners A

@@ -1,9 +1,8 @@
 -- The strip between two rings. The sentences are those of 01, "Bands".
-use Rattle.std.specs.Prelude.{ℕ, Bool, cond, List, [], ◌∷◌, ◌++◌, map, reverse, Float}
+use Rattle.std.specs.Prelude.{ℕ, Bool, cond, List, [], ◌∷◌, ◌++◌, map, reverse, Float, Option}
 use Rattle.std.specs.Float.Ieee.{le}
 use Rattle.numbers.specs.Order.{min_of, max_of}
 use Rattle.numbers.specs.Rounded.{◌⊕◌}
-use Rattle.surfaces.specs.declared.surface.Period.{Period}
 use Rattle.surfaces.specs.Rungs.{inner}
 use Rattle.tables.specs.Corners.{Corner, Corners}
 
@@ -11,7 +10,7 @@ use Rattle.tables.specs.Corners.{Corner, Corners}
 -- point at u and v, the ladder of n steps from one v up to another, and how many steps lie between two v.
 pub record Setting (A : Type 0) : Type 0 where
   pub period : Float
-  pub v_period : Period
+  pub v_period : Option Float
   pub sense : Bool
   pub same : A → A → Bool
   pub point_at : Float → Float → A

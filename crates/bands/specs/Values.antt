@@ -1,5 +1,5 @@
 -- Values of the band path, computed. Positions are letters or numbers here.
-use Rattle.std.specs.Prelude.{ℕ, ◌+◌, ◌≡◌, refl, Bool, true, false, List, [], ◌∷◌, map, reverse, eqb, ℤ, pos, negsuc, ◌+ℤ◌, Float}
+use Rattle.std.specs.Prelude.{ℕ, ◌+◌, ◌≡◌, refl, Bool, true, false, List, [], ◌∷◌, map, reverse, eqb, ℤ, pos, negsuc, ◌+ℤ◌, Float, Some, None}
 use Rattle.std.specs.Float.{binary64, fin}
 use Rattle.std.specs.Float.Ieee.{add, sub, mul, div, neg, lt, le, eq, ne, of_bits, of_int, to_signed}
 use Rattle.loops.specs.Steps.{net, net_of, count, steps_round, steps_along}
@@ -19,7 +19,6 @@ use Rattle.bands.specs.Given.{Measured, Given, given_of}
 use Rattle.lists.specs.Elements.{only}
 use Rattle.bands.specs.Rings.{Face, rising, shifted, laid, onto, on_strip, any_straddles, across_seam, gap_of, recut, cut_anew, has_strip, has_gap, reseam, trial, started}
 use Rattle.seam.specs.Gap.{insert, sorted, passed, gap_along, widest_gap, usable}
-use Rattle.surfaces.specs.declared.surface.Period.TheVariants.{Every, None}
 use Rattle.surfaces.specs.Rungs.{division, divisions_from, slack_of, near, kept_after, kept_divisions, ended_on, rungs, inner}
 use Rattle.bands.specs.Strip.{Setting, ladder, heights, strip}
 use Rattle.bands.specs.Band.{first_is_lower, lift, joined, lower_first, lower_ring, upper_ring, strip_of, outer, holes}
@@ -171,7 +170,7 @@ tie_of_means : first_is_lower None true false r1 r1 ≡ true
 unfolding first_is_lower lt
 tie_of_means = refl
 
-swapped : first_is_lower (Every r4) false true r1 r2 ≡ false
+swapped : first_is_lower (Some r4) false true r1 r2 ≡ false
 unfolding first_is_lower lt
 swapped = refl
 
@@ -277,7 +276,7 @@ abbrev ⅔ : Float
 -- ---- a torus, period 4 in u and v: one ring rises and one falls, and the rising one is the first
 
 torus : Bool → Setting ℕ
-torus sense = record { period = r4; v_period = Every r4; sense = sense; same = eqb; point_at = λ u v. 0; rungs = λ lo hi n. lo ∷ hi ∷ []; steps = λ lo hi. 1 }
+torus sense = record { period = r4; v_period = Some r4; sense = sense; same = eqb; point_at = λ u v. 0; rungs = λ lo hi n. lo ∷ hi ∷ []; steps = λ lo hi. 1 }
 
 rising-at : Float → Float → Given ℕ
 rising-at v w = record {
@@ -325,7 +324,7 @@ record Values : Type 0 where
   -- "If no open point reaches the cut, or the first one does, the ring stays", its repeated last point as it was given. Here it is the later ring.
   first_at_cut : (reseam r4 (laid r4 (drilled five at_cut))).later ≡ at_cut
   none_at_cut : (reseam r4 (laid r4 (drilled five before_cut))).later ≡ before_cut
-  both_wrap : (net_wrap (Every r4) (us at_cut) ≡ pos 1) × (net_wrap (Every r4) (us before_cut) ≡ pos 1)
+  both_wrap : (net_wrap (Some r4) (us at_cut) ≡ pos 1) × (net_wrap (Some r4) (us before_cut) ≡ pos 1)
   -- the first ring is turned all the same
   other_turned : (reseam r4 (laid r4 (drilled five before_cut))).first
       ≡ corner r2 r1 22 ∷ corner r3 r1 23 ∷ corner r4 r1 20 ∷ corner r5 r1 21 ∷ corner r6 r1 22 ∷ []
@@ -339,7 +338,7 @@ record Values : Type 0 where
   three_outer : positions (outer plain (drilled three_up three_down)) ≡ 11 ∷ 10 ∷ 11 ∷ 40 ∷ 50 ∷ 21 ∷ 20 ∷ 21 ∷ 50 ∷ 40 ∷ []
   -- Of rings that wrap twice, what comes round is one period up, and the point that closes has the position and v of the new first one, one period up in u. The
   -- first ring then begins backward, and so it is turned once more, to begin at 20.
-  wraps_twice : net_wrap (Every r4) (us twice_up) ≡ pos 2
+  wraps_twice : net_wrap (Some r4) (us twice_up) ≡ pos 2
   twice_cut : reseam r4 (laid r4 (drilled twice_up twice_down))
       ≡ record {
         first = corner r5 r3 22 ∷ corner r4 r1 20 ∷ corner r5 r2 21 ∷ corner r9 r3 22 ∷ [];

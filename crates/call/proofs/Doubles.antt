@@ -6,12 +6,11 @@ use mathlib.Core.Bool.{Bool, true, false, cond, not, ◌&&◌}
 use mathlib.Core.List.{List, [], ◌∷◌}
 use lib.Ieee.{Float, nan, binary64, lt, le}
 use lib.Ieee.Fits.{add-fits, mul-fits}
+use Rattle.std.proofs.Common.{Option, Some, None}
 use Rattle.numbers.specs.Order.{min_of, max_of}
 use Rattle.numbers.specs.Rounded.{◌⊕◌}
 use Rattle.numbers.specs.declared.math.Vec3.{Vec3}
 use Rattle.numbers.specs.declared.math.Frame.{Frame}
-use Rattle.surfaces.specs.declared.surface.Period.{Period}
-use Rattle.surfaces.specs.declared.surface.Period.TheVariants.{Every, None}
 use Rattle.surfaces.specs.declared.surface.Surface.{Surface}
 use Rattle.surfaces.specs.declared.surface.Surface.TheVariants.{Plane, Cylinder, Cone, Sphere, Torus}
 use Rattle.surfaces.specs.Points.{plane_of, raised_of, sphere_of, torus_of, point_of}
@@ -68,10 +67,10 @@ moved-fits f to c h = record { u = to c.u; v = h.v; at = h.at }
 
 -- ---- a band
 
-lift-fits : (p : Period) (with_l with_u : Bool) (mean_l mean_u v : Float) → Fits v → Fits (lift p with_l with_u mean_l mean_u v)
+lift-fits : (p : Option Float) (with_l with_u : Bool) (mean_l mean_u v : Float) → Fits v → Fits (lift p with_l with_u mean_l mean_u v)
 unfolding lift
 lift-fits None with_l with_u mean_l mean_u v h = h
-lift-fits (Every p) with_l with_u mean_l mean_u v h = at-lift (with_l && (not with_u && lt mean_u mean_l))
+lift-fits (Some p) with_l with_u mean_l mean_u v h = at-lift (with_l && (not with_u && lt mean_u mean_l))
   where
     at-lift : (t : Bool) → Fits (cond t (v ⊕ p) v)
     at-lift true = add-fits binary64 v p

@@ -6,9 +6,8 @@ use mathlib.Core.List.{List, [], ◌∷◌, map, map-map}
 use native.Mathlib.Omega.{arith}
 use lib.ListN.{length, drop, length-map}
 use lib.Ieee.{Float}
+use Rattle.std.proofs.Common.{Option, Some, None}
 use Rattle.numbers.specs.declared.math.Vec3.{Vec3}
-use Rattle.surfaces.specs.declared.surface.Period.{Period}
-use Rattle.surfaces.specs.declared.surface.Period.TheVariants.{Every, None}
 use Rattle.surfaces.specs.Domains.{u_period}
 use Rattle.lists.specs.Pieces.{pieces}
 use Rattle.lists.proofs.Maps.{map-take, map-drop}
@@ -60,11 +59,11 @@ positions_of (u ∷ us) (v ∷ vs) (p ∷ ps) e f = ap (λ (l : List _). p ∷ l
 
 -- ---- a loop that wraps has points
 
-pub wrapping_some : (p : Period) (r : Corners Vec3) → wraps (net_wrap p (us r)) ≡ true → 0 < length r
+pub wrapping_some : (p : Option Float) (r : Corners Vec3) → wraps (net_wrap p (us r)) ≡ true → 0 < length r
 unfolding wrap_every
 wrapping_some None r h = absurd (true≢false (sym h))
-wrapping_some (Every p) [] h = absurd (true≢false (sym h))
-wrapping_some (Every p) (c ∷ r) h = omega arith
+wrapping_some (Some p) [] h = absurd (true≢false (sym h))
+wrapping_some (Some p) (c ∷ r) h = omega arith
 
 -- ---- the record
 

@@ -13,7 +13,6 @@ use super::first::part_first;
 use closed_region::boxes::Bounds;
 use closed_region::holes::rephase_holes;
 use closed_region::region::closed_region;
-use surfaces::surface::Period;
 use tables::corners::Corner;
 use tables::pieces::loop_of;
 use tables::slices::{part, piece_end, shorter};
@@ -47,8 +46,8 @@ pub fn closed_face(
     counts: &[usize],
     areas: &mut [f64],
     boxes: &mut [Bounds],
-    u: Period,
-    v: Period,
+    u: Option<f64>,
+    v: Option<f64>,
     out: &mut [Corner],
     out_counts: &mut [usize],
     out_areas: &mut [f64],

@@ -14,7 +14,6 @@ use super::box_table::box_of;
 use super::rephase::{Branch, stays};
 use loops::rows::signed_area;
 use numbers::rounding::round;
-use surfaces::surface::Period;
 use tables::corners::Corner;
 use tables::moves::{Move, move_u, move_v};
 use tables::pieces::loop_of;
@@ -32,15 +31,15 @@ pub fn hole_shift(period: f64, from: f64, to: f64) -> f64
 }
 
 // Where the holes of an outer loop go.
-fn branch_of(t: &[Corner], u: Period, v: Period) -> Branch
+fn branch_of(t: &[Corner], u: Option<f64>, v: Option<f64>) -> Branch
     ensures { result ≡ branch_in (period_length u) (period_length v) (rows t.now) }
 {
     let b = box_of(t);
     Branch {
         umid: (b.ulo + b.uhi) * 0.5,
         vmid: (b.vlo + b.vhi) * 0.5,
-        uperiod: u.length(),
-        vperiod: v.length(),
+        uperiod: u.unwrap_or(0.0),
+        vperiod: v.unwrap_or(0.0),
     }
 }
 
@@ -97,8 +96,8 @@ pub fn rephase_holes(
     counts: &[usize],
     areas: &mut [f64],
     outer: usize,
-    u: Period,
-    v: Period,
+    u: Option<f64>,
+    v: Option<f64>,
 )
     ensures t_after { rows t.new ≡ rephased_rows outer (period_length u) (period_length v) (pieces counts.now (rows t.old)) areas.old (rows t.old) }
     ensures areas_after { areas.new ≡ rephased_areas outer (period_length u) (period_length v) (pieces counts.now (rows t.old)) areas.old }

@@ -4,7 +4,7 @@ ghost use Rattle.closed_region.specs.Outer.{side_of, encloses, last_largest};
 ghost use Rattle.closed_region.specs.ByOutermost.{Fits, empty_box, hull_of, one_if_unenclosable, encloses_outermost};
 
 use super::boxes::Bounds;
-use numbers::order::{abs, max, min};
+use numbers::order::{max, min};
 
 // What one pass over the boxes finds: the outermost ends of the boxes that some box can enclose, and
 // the number of those that none can. Within a slack that is not below 0 none encloses a box that does
@@ -82,7 +82,7 @@ pub fn last_largest(areas: &[f64]) -> usize
 {
     let mut best = 0;
     for (i, &area) in areas.iter().enumerate() {
-        if !(abs(area) < abs(areas[best])) {
+        if !(area.abs() < areas[best].abs()) {
             best = i;
         }
     }

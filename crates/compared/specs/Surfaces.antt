@@ -1,5 +1,5 @@
 -- A surface, its tolerances and its domain as they cross to another language.
-use Rattle.std.specs.Prelude.{ℕ, zero, suc, Bool, cond, Float}
+use Rattle.std.specs.Prelude.{ℕ, zero, suc, Bool, cond, Float, Option, Some, None}
 use Rattle.std.specs.Float.Ieee.{eq}
 use Rattle.numbers.specs.Constants.{plus_zero}
 use Rattle.surfaces.specs.declared.options.Resolved.{Resolved}
@@ -7,8 +7,6 @@ use Rattle.surfaces.specs.Domains.{period_length}
 use Rattle.surfaces.specs.declared.steps.Axis.{Axis}
 use Rattle.surfaces.specs.declared.steps.Axis.TheVariants.{U, «V»}
 use Rattle.surfaces.specs.declared.surface.Domain.{Domain}
-use Rattle.surfaces.specs.declared.surface.Period.{Period}
-use Rattle.surfaces.specs.declared.surface.Period.TheVariants.{Every, None}
 use Rattle.surfaces.specs.declared.surface.Surface.{Surface}
 use Rattle.surfaces.specs.declared.surface.Surface.TheVariants.{Plane, Cylinder, Cone, Sphere, Torus}
 use Rattle.compared.specs.declared.of_surfaces.DomainEnds.{DomainEnds}
@@ -27,8 +25,8 @@ axis_of along = cond along U «V»
 abbrev pub resolved_of : Float → Float → ℕ → Resolved
 resolved_of s a n = record { sag = s; angle = a; min_edge_segments = n }
 
-abbrev pub period_of : Float → Period
-period_of p = cond (eq p plus_zero) None (Every p)
+abbrev pub period_of : Float → Option Float
+period_of p = cond (eq p plus_zero) None (Some p)
 
 abbrev pub ends_of : Domain → DomainEnds
 ends_of d =

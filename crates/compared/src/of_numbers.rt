@@ -122,10 +122,11 @@ pub extern "C" fn compared_acos(c: f64) -> f64
 }
 
 #[unsafe(no_mangle)]
+#[tactic(auto, using(numbers::proofs::order::Laws::size_is))]
 pub extern "C" fn compared_abs(a: f64) -> f64
     ensures { result ≡ abs_of a }
 {
-    numbers::order::abs(a)
+    a.abs()
 }
 
 #[unsafe(no_mangle)]

@@ -12,7 +12,7 @@ use super::of_numbers::{Placement, Point, frame_of, point_of};
 use numbers::math::Vec2;
 use surfaces::options::Resolved;
 use surfaces::steps::Axis;
-use surfaces::surface::{Domain, Period, Surface};
+use surfaces::surface::{Domain, Surface};
 
 // A domain: its ends, and its periods or 0.
 #[repr(C)]
@@ -50,13 +50,10 @@ fn axis_of(along: bool) -> Axis
     if along { Axis::U } else { Axis::V }
 }
 
-pub fn period_of(length: f64) -> Period
+pub fn period_of(length: f64) -> Option<f64>
     ensures { result ≡ period_of length }
 {
-    if length == 0.0 {
-        return Period::None;
-    }
-    Period::Every(length)
+    if length == 0.0 { None } else { Some(length) }
 }
 
 fn ends_of(d: Domain) -> DomainEnds
@@ -69,8 +66,8 @@ fn ends_of(d: Domain) -> DomainEnds
         uhi: d.u.hi,
         vlo: d.v.lo,
         vhi: d.v.hi,
-        uperiod: u_period.length(),
-        vperiod: v_period.length(),
+        uperiod: u_period.unwrap_or(0.0),
+        vperiod: v_period.unwrap_or(0.0),
     }
 }
 

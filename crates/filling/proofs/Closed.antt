@@ -8,11 +8,11 @@ use lib.Dec.{ltb}
 use lib.Ieee.{Float}
 use lib.ListN.{length, take, drop, length-map, length-drop}
 use lib.Seq.{length-take-le, take-length}
+use Rattle.std.proofs.Common.{Option}
 use Rattle.numbers.specs.declared.math.Vec3.{Vec3}
 use Rattle.lists.specs.Pieces.{pieces}
 use Rattle.lists.specs.Placed.{placed}
 use Rattle.lists.proofs.Pieces.{length-pieces}
-use Rattle.surfaces.specs.declared.surface.Period.{Period}
 use Rattle.surfaces.specs.declared.surface.Surface.{Surface}
 use Rattle.surfaces.specs.Domains.{u_period, v_period, period_length}
 use Rattle.tables.specs.Corners.{Corners}
@@ -85,7 +85,7 @@ module _ (s : List ℕ) (a : Accepted version1 s) (some : 0 < loops s) (none : w
           a_box_each = omega arith;
         }
 
-    module _ (u v : Period) (u_is : u ≡ u_period surface) (v_is : v ≡ v_period surface) where
+    module _ (u v : Option Float) (u_is : u ≡ u_period surface) (v_is : v ≡ v_period surface) where
       abbrev result : List ResultLoop
       result = closed_loops (period_length u) (period_length v) (pieces given r)
 

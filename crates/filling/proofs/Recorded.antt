@@ -8,8 +8,9 @@ use lib.IntN.{ℤ, pos, negsuc}
 use lib.ListN.{length, get_or, take, drop, replicate, length-replicate}
 use lib.Seq.{get_or-take}
 use Rattle.std.specs.Int.{int_signum}
+use lib.Ieee.{Float}
+use Rattle.std.proofs.Common.{Option}
 use Rattle.numbers.specs.declared.math.Vec3.{Vec3}
-use Rattle.surfaces.specs.declared.surface.Period.{Period}
 use Rattle.lists.specs.Pieces.{pieces}
 use Rattle.lists.specs.Placed.{placed}
 use Rattle.lists.proofs.Pieces.{length-pieces}
@@ -29,7 +30,7 @@ falls_sign (pos zero) = refl
 falls_sign (pos (suc n)) = refl
 falls_sign (negsuc n) = refl
 
-record-at : (p : Period) (ls : List (Corners Vec3)) (start k : ℕ) → k < length ls
+record-at : (p : Option Float) (ls : List (Corners Vec3)) (start k : ℕ) → k < length ls
     → get_or (records_from p start ls) k no_loop ≡ record_of p (start + total (take k ls)) (get_or ls k [])
 unfolding records_from sum
 record-at p [] start k h = absurd (omega arith)
@@ -61,7 +62,7 @@ module _ {A : Type 0} where
   piece_at (n ∷ ns) xs (suc k) h =
       ap (take (length (get_or (pieces ns (drop n xs)) k []))) (drop-front n (total (take k (pieces ns (drop n xs)))) xs) ∙ piece_at ns (drop n xs) k (omega arith)
 
-module _ (p : Period) (ns : List ℕ) (xs : Corners Vec3) (loops : List LoopRecord)
+module _ (p : Option Float) (ns : List ℕ) (xs : Corners Vec3) (loops : List LoopRecord)
     (loops_are : loops ≡ placed 0 (records_from p 0 (pieces ns xs)) (replicate 16 no_loop)) (few : length ns ≤ 16) (k : ℕ) (inside : k < length ns) where
   abbrev wanted : List LoopRecord
   wanted = records_from p 0 (pieces ns xs)

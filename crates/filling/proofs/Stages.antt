@@ -7,11 +7,11 @@ use borrow.Author.Tests.{ne_eqb}
 use lib.IntN.{ℤ}
 use lib.Ieee.{Float, nan}
 use lib.ListN.{length, get_or, take, replicate}
+use Rattle.std.proofs.Common.{Option}
 use Rattle.lists.specs.Pieces.{pieces}
 use Rattle.lists.specs.Placed.{placed}
 use Rattle.numbers.specs.declared.math.Frame.{Frame}
 use Rattle.surfaces.specs.declared.options.Resolved.{Resolved}
-use Rattle.surfaces.specs.declared.surface.Period.{Period}
 use Rattle.surfaces.specs.declared.surface.Surface.{Surface}
 use Rattle.surfaces.specs.Domains.{u_period}
 use Rattle.tables.specs.Rows.{rows}
@@ -160,10 +160,10 @@ module _ (s : List ℕ) (a : Accepted version1 s) (head : List Float) (counts : 
       e ∙ (λ i. surface_of (kind_is i) ((x_is ∙ ap (λ (h : List Float). get_or h 9 nan) read.head_is) i) ((y_is ∙ ap (λ (h : List Float). get_or h 10 nan) read.head_is) i))
       ∙ surface_read s
 
-  module _ (surface : Surface) (surface_is : surface ≡ surface_in s) (p : Period) (p_is : p ≡ u_period surface)
+  module _ (surface : Surface) (surface_is : surface ≡ surface_in s) (p : Option Float) (p_is : p ≡ u_period surface)
       (records : List LoopRecord) (recorded : records ≡ placed 0 (records_from p 0 (pieces counts (rows t))) (replicate 16 no_loop)) where
     pub records_in : records ≡ placed 0 (records_from (u_period surface) 0 (pieces counts (rows t))) (replicate 16 no_loop)
-    records_in = recorded ∙ ap (λ (q : Period). placed 0 (records_from q 0 (pieces counts (rows t))) (replicate 16 no_loop)) p_is
+    records_in = recorded ∙ ap (λ (q : Option Float). placed 0 (records_from q 0 (pieces counts (rows t))) (replicate 16 no_loop)) p_is
 
     module _ (l : ℕ) (l_is : l ≡ length counts) where
       pub wraps_in_lem : (w : List ℤ) → w ≡ map (λ (one : LoopRecord). one.wrap) records → take l w ≡ wraps_in s

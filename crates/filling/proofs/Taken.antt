@@ -6,10 +6,10 @@ use mathlib.Core.List.{List, [], map, flatten}
 use native.Mathlib.Omega.{arith}
 use lib.Ieee.{Float}
 use lib.ListN.{length, get_or, take, drop, length-map}
+use Rattle.std.proofs.Common.{Option}
 use Rattle.numbers.specs.declared.math.Frame.{Frame}
 use Rattle.numbers.specs.declared.math.Vec3.{Vec3}
 use Rattle.surfaces.specs.declared.options.Resolved.{Resolved}
-use Rattle.surfaces.specs.declared.surface.Period.{Period}
 use Rattle.surfaces.specs.declared.surface.Surface.{Surface}
 use Rattle.surfaces.specs.Domains.{u_period, period_length}
 use Rattle.lists.specs.Pieces.{pieces}
@@ -152,7 +152,7 @@ module _ (s : List ℕ) (corners : List Float) (given : List ℕ) (loops : List 
 
   -- ---- the band
 
-  setting_taken : (p : Period) (period : Float) → p ≡ u_period surface → period ≡ period_length p → setting_of frame surface options period sense ≡ setting_in s
+  setting_taken : (p : Option Float) (period : Float) → p ≡ u_period surface → period ≡ period_length p → setting_of frame surface options period sense ≡ setting_in s
   unfolding setting_in
   setting_taken p period p_is period_is =
       let e : period ≡ period_length (u_period (surface_in s)) = period_is ∙ ap period_length (p_is ∙ ap u_period f.surface_is) in
@@ -184,7 +184,7 @@ module _ (s : List ℕ) (corners : List Float) (given : List ℕ) (loops : List 
         let m = few in
         omega arith
 
-    pub band-taken : (p : Period) (period : Float) (r : Result Closed TooMany) (t' holes' : List Float) → p ≡ u_period surface → period ≡ period_length p
+    pub band-taken : (p : Option Float) (period : Float) (r : Result Closed TooMany) (t' holes' : List Float) → p ≡ u_period surface → period ≡ period_length p
         → (length counts ≤ version1.loops → length (rows first) + length (rows later) ≤ version1.points
         → BandIs (setting_of frame surface options period sense) (held_in first later ff lf (pieces counts (rows holes))) r t' (pieces counts (rows holes')))
         → BandIs (setting_in s) (given_in s) r t' (pieces (others a b given) (rows holes'))

@@ -207,7 +207,7 @@ fn band_of(
     pick_holes(holes, 0, corners, given, a, b);
     pick(&mut counts, 0, given, a, b);
     let k = shorter(count_holes(given.len(), a, b), 16);
-    let period = surface.u_period().length();
+    let period = surface.u_period().unwrap_or(0.0);
     band_between(
         &mut first[..m],
         &mut later[..n],

@@ -1,6 +1,6 @@
 -- 01, "Whole surfaces": "Sphere and torus only; each direction has 3 to 256 steps, so at most 1,024 corners". The corners stand in the order of
 -- `full_domain_loop` of face.rs: four sides, of which each leaves its last corner to the next.
-use Rattle.std.specs.Prelude.{ℕ, ◌+◌, ◌*◌, ◌<◌, min, max, ◌≡◌, Bool, true, false, cond, length, get_or, drop, leb, Float}
+use Rattle.std.specs.Prelude.{ℕ, ◌+◌, ◌*◌, ◌<◌, min, max, ◌≡◌, Bool, true, false, cond, length, get_or, drop, leb, Float, Option, Some, None}
 use mathlib.Core.List.{List, [], ◌++◌, map, reverse, drop_last}
 use Rattle.std.specs.Float.{nan}
 use Rattle.std.specs.Float.Ieee.{le}
@@ -14,8 +14,6 @@ use Rattle.surfaces.specs.declared.options.Resolved.{Resolved}
 use Rattle.surfaces.specs.declared.steps.Axis.{Axis}
 use Rattle.surfaces.specs.declared.steps.Axis.TheVariants.{U, «V»}
 use Rattle.surfaces.specs.declared.surface.Domain.{Domain}
-use Rattle.surfaces.specs.declared.surface.Period.{Period}
-use Rattle.surfaces.specs.declared.surface.Period.TheVariants.{Every, None}
 use Rattle.surfaces.specs.declared.surface.Surface.{Surface}
 use Rattle.surfaces.specs.declared.surface.Surface.TheVariants.{Plane, Cylinder, Cone, Sphere, Torus}
 use Rattle.surfaces.specs.Domains.{domain_of}
@@ -93,9 +91,9 @@ unfoldable pub whole_corners : Surface → Resolved → List Vec2
 whole_corners s o = cond (is_whole s) (sides_of s o) []
 
 -- `wrap_u` and `wrap_v`: where a parameter comes round, its far end is the near one, so that the seam closes to the bit
-unfoldable pub wrap_of : Period → Interval → Float → Float
+unfoldable pub wrap_of : Option Float → Interval → Float → Float
 wrap_of None i t = t
-wrap_of (Every p) i t = cond (le i.hi t) i.lo t
+wrap_of (Some p) i t = cond (le i.hi t) i.lo t
 
 unfoldable pub position_of : Surface → Frame → Vec2 → Vec3
 position_of s f c = point_of f s (wrap_of (domain_of s).u_period (domain_of s).u c.u) (wrap_of (domain_of s).v_period (domain_of s).v c.v)

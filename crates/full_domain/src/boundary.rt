@@ -9,7 +9,7 @@ use numbers::math::{Frame, Interval, Vec2, Vec3};
 use surfaces::knots::{merge_even, merge_even_steps};
 use surfaces::options::Resolved;
 use surfaces::steps::{Axis, direction_steps};
-use surfaces::surface::{Period, Surface};
+use surfaces::surface::Surface;
 
 pub fn is_whole(surface: Surface) -> bool
     ensures { result ≡ is_whole surface }
@@ -29,12 +29,12 @@ fn centre(range: Interval) -> f64
     0.5 * (range.lo + range.hi)
 }
 
-fn wrap(period: Period, range: Interval, t: f64) -> f64
+fn wrap(period: Option<f64>, range: Interval, t: f64) -> f64
     ensures { result ≡ wrap_of period range t }
 {
     match period {
-        Period::None => t,
-        Period::Every(_) => wrap_end(range, t),
+        None => t,
+        Some(_) => wrap_end(range, t),
     }
 }
 

@@ -11,7 +11,6 @@ ghost use Rattle.bands.specs.Rings.{recut, onto, reseam};
 ghost use Rattle.laying.specs.Held.{face_in, reseam_within};
 
 use super::holes::{any_straddles, onto_all, spans_into};
-use numbers::order::is_finite;
 use rings::moves::recut_at;
 use rings::table_choices::{first_open_past, greatest_u, least_u};
 use seam::gap::{Gap, Span, sort_spans, usable, widest_gap};
@@ -19,10 +18,11 @@ use tables::corners::Corner;
 use tables::moves::Move;
 
 // Whether the rings make a strip at all, from lo, their least u, on.
+#[tactic(auto, using(numbers::proofs::order::Laws::finite_is))]
 fn has_strip(lo: f64, first: &[Corner], later: &[Corner]) -> bool
     ensures { result ≡ (finite lo && lt lo (greatest_u (us (rows first.now)) (us (rows later.now)))) }
 {
-    if is_finite(lo) {
+    if lo.is_finite() {
         return lo < greatest_u(first, later);
     }
     false

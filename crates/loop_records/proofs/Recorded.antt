@@ -12,8 +12,8 @@ use mir.Syntax.{w32}
 use mir.Val.{SFits, to_z, of_z}
 use mir.Facts.{to_z-of_z}
 use Rattle.std.specs.Int.{int_signum}
+use Rattle.std.proofs.Common.{Option}
 use Rattle.numbers.specs.declared.math.Vec3.{Vec3}
-use Rattle.surfaces.specs.declared.surface.Period.{Period}
 use Rattle.lists.specs.Pieces.{pieces}
 use Rattle.lists.specs.Placed.{placed}
 use Rattle.lists.proofs.Maps.{map-take}
@@ -29,7 +29,7 @@ use Rattle.loop_records.specs.Loops.{record_of, records_from}
 
 -- ---- one record
 
-pub record_is : (period : Period) (r : Corners Vec3) (start n : ℕ) (w t : ℤ) (a : Float) → n ≡ length r → SFits w32 w → SFits w32 t → w ≡ net_wrap period (us r)
+pub record_is : (period : Option Float) (r : Corners Vec3) (start n : ℕ) (w t : ℤ) (a : Float) → n ≡ length r → SFits w32 w → SFits w32 t → w ≡ net_wrap period (us r)
     → t ≡ int_signum (to_z w32 (of_z w32 w)) → a ≡ area_of (us r) (vs r)
     → record { start = start; count = n; wrap = to_z w32 (of_z w32 w); travel = to_z w32 (of_z w32 t); area = a } ≡ record_of period start r
 unfolding record_of
@@ -40,7 +40,7 @@ record_is period r start n w t a ne wf tf we te ae =
 
 -- ---- one for each loop
 
-module _ (period : Period) where
+module _ (period : Option Float) where
   pub length_records : (start : ℕ) (loops : List (Corners Vec3)) → length (records_from period start loops) ≡ length loops
   unfolding records_from
   length_records start [] = refl
@@ -55,7 +55,7 @@ module _ (period : Period) where
   unfolding records_from
   first-record start r loops = refl
 
-module _ (period : Period) (ns : List ℕ) (xs : Corners Vec3) (d₀ : List LoopRecord) where
+module _ (period : Option Float) (ns : List ℕ) (xs : Corners Vec3) (d₀ : List LoopRecord) where
   abbrev wanted : List LoopRecord
   wanted = records_from period 0 (pieces ns xs)
 
@@ -106,7 +106,7 @@ module _ (period : Period) (ns : List ℕ) (xs : Corners Vec3) (d₀ : List Loop
   recording_end d from i k h = filling_end 0 wanted d₀ d i k.fill (let l = length_wanted in omega arith)
 
 -- what is read of each record: of those of the loops, in front
-pub read_out : {B : Type 0} (f : LoopRecord → B) (period : Period) (ns : List ℕ) (xs : Corners Vec3) (d : List LoopRecord) (b : List B) → length ns ≤ 16
+pub read_out : {B : Type 0} (f : LoopRecord → B) (period : Option Float) (ns : List ℕ) (xs : Corners Vec3) (d : List LoopRecord) (b : List B) → length ns ≤ 16
     → d ≡ placed 0 (records_from period 0 (pieces ns xs)) (replicate 16 no_loop) → b ≡ map f d → take (length ns) b ≡ map f (records_from period 0 (pieces ns xs))
 read_out f period ns xs d b few e r =
     let w : List LoopRecord = records_from period 0 (pieces ns xs) in

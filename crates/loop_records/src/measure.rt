@@ -10,12 +10,11 @@ ghost use Rattle.loop_records.specs.Loops.{record_of, records_from};
 
 use super::{LoopRecord, no_loop};
 use loops::rows::{net_wrap, signed_area};
-use surfaces::surface::Period;
 use tables::corners::Corner;
 use tables::slices::piece_end;
 
 // The record of a loop that begins at row `start` of the face's table.
-fn measured(t: &[Corner], start: usize, period: Period) -> LoopRecord
+fn measured(t: &[Corner], start: usize, period: Option<f64>) -> LoopRecord
     ensures { result ≡ record_of period start (rows t.now) }
 {
     let wrap = net_wrap(t, period);
@@ -29,7 +28,7 @@ fn measured(t: &[Corner], start: usize, period: Period) -> LoopRecord
 }
 
 // A record for each loop, and none where there are more loops than the list has records.
-pub fn measure_loops(t: &[Corner], counts: &[usize], period: Period) -> [LoopRecord; 16]
+pub fn measure_loops(t: &[Corner], counts: &[usize], period: Option<f64>) -> [LoopRecord; 16]
     ensures { result ≡ placed 0 (records_from period 0 (pieces counts.now (rows t.now))) (replicate 16 no_loop) }
 {
     let mut loops = [no_loop(); 16];

@@ -1,13 +1,11 @@
 -- 01, "Closed faces": "`net_wrap`: travel / period, rounded half away from zero; that number if at least 1 in size and less than 0.15 off, else 0".
-use Rattle.std.specs.Prelude.{cond, ◌&&◌, List, [], ◌∷◌, ℤ, pos, Float}
+use Rattle.std.specs.Prelude.{cond, ◌&&◌, List, [], ◌∷◌, ℤ, pos, Float, Option, Some, None}
 use Rattle.std.specs.Float.{binary64}
 use Rattle.std.specs.Float.Ieee.{of_bits, lt, le, to_signed}
 use Rattle.numbers.specs.Constants.{one}
 use Rattle.numbers.specs.Order.{abs_of}
 use Rattle.numbers.specs.Round.{round_away}
 use Rattle.numbers.specs.Rounded.{◌⊖◌, ◌⊘◌}
-use Rattle.surfaces.specs.declared.surface.Period.{Period}
-use Rattle.surfaces.specs.declared.surface.Period.TheVariants.{Every, None}
 use Rattle.loops.specs.Steps.{last_of}
 
 abbrev pub tolerance : Float
@@ -26,6 +24,6 @@ wrap_every p (u ∷ []) = pos 0
 wrap_every p (u ∷ w ∷ us) = turns_counted ((last_of w us ⊖ u) ⊘ p)
 
 -- where u does not come round, no loop wraps
-abbrev pub net_wrap : Period → List Float → ℤ
+abbrev pub net_wrap : Option Float → List Float → ℤ
 net_wrap None us = pos 0
-net_wrap (Every p) us = wrap_every p us
+net_wrap (Some p) us = wrap_every p us

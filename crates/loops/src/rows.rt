@@ -6,7 +6,6 @@ ghost use Rattle.loops.specs.Area.{area_of};
 ghost use Rattle.loops.specs.Wrap.{net_wrap, wrap_every};
 
 use super::wrap::turns_counted;
-use surfaces::surface::Period;
 use tables::corners::Corner;
 
 // The row after row i of n, round the loop.
@@ -39,11 +38,11 @@ fn wrap_every(t: &[Corner], p: f64) -> i32
     }
 }
 
-pub fn net_wrap(t: &[Corner], period: Period) -> i32
+pub fn net_wrap(t: &[Corner], period: Option<f64>) -> i32
     ensures { result ≡ net_wrap period (us (rows t.now)) }
 {
     match period {
-        Period::Every(p) => wrap_every(t, p),
-        Period::None => 0,
+        Some(p) => wrap_every(t, p),
+        None => 0,
     }
 }

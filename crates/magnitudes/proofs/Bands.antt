@@ -10,6 +10,7 @@ use borrow.Author.Tests.{eq-eqb}
 use lib.Dec.{lit<, lit≤}
 use lib.ListN.{length, drop}
 use lib.Ieee.{Float, lt, le}
+use Rattle.std.proofs.Common.{Option, Some, None}
 use Rattle.numbers.specs.Constants.{TAU}
 use Rattle.numbers.specs.Order.{min_of, max_of}
 use Rattle.numbers.specs.Rounded.{◌⊕◌}
@@ -18,8 +19,6 @@ use Rattle.numbers.specs.declared.math.Vec3.{Vec3}
 use Rattle.numbers.proofs.Fractions.{turn_within}
 use Rattle.numbers.proofs.Magnitude.{held_small, within_more, add_within, sub_within, min_within, max_within}
 use Rattle.numbers.proofs.math.Frames.{In, Billion, in_more}
-use Rattle.surfaces.specs.declared.surface.Period.{Period}
-use Rattle.surfaces.specs.declared.surface.Period.TheVariants.{Every, None}
 use Rattle.surfaces.specs.Domains.{u_period, v_period, period_length}
 use Rattle.surfaces.specs.Rungs.{rungs, inner}
 use Rattle.surfaces.specs.Steps.{v_steps_of}
@@ -57,13 +56,13 @@ module _ (s : List ℕ) where
   -- where u does not come round no loop wraps
   open_none : u_period (surface_in s) ≡ None → wrapping s ≡ 0
   unfolding wrapping measured_in
-  open_none e = ap length (only_none is_wrapping (all_map _ (λ r h. ap (λ (p : Period). wraps (net_wrap p (us r))) e) (loops_fit s)))
+  open_none e = ap length (only_none is_wrapping (all_map _ (λ r h. ap (λ (p : Option Float). wraps (net_wrap p (us r))) e) (loops_fit s)))
 
   module _ (some : wrapping s ≡ 0 → ⊥) where
-    comes_round : u_period (surface_in s) ≡ Every TAU
+    comes_round : u_period (surface_in s) ≡ Some TAU
     comes_round = go (either_u (surface_in s))
       where
-        go : (u_period (surface_in s) ≡ None) ⊎ (u_period (surface_in s) ≡ Every TAU) → u_period (surface_in s) ≡ Every TAU
+        go : (u_period (surface_in s) ≡ None) ⊎ (u_period (surface_in s) ≡ Some TAU) → u_period (surface_in s) ≡ Some TAU
         go (inl e) = absurd (some (open_none e))
         go (inr e) = e
 
@@ -77,11 +76,11 @@ module _ (s : List ℕ) where
 
 -- ---- v: an upper ring is lifted by at most one turn
 
-lift_within : (H : ℕ) → H ≤ Million → (p : Period) → (p ≡ None) ⊎ (p ≡ Every TAU) → (with_l with_u : Bool) (mean_l mean_u v : Float) → Within H v
+lift_within : (H : ℕ) → H ≤ Million → (p : Option Float) → (p ≡ None) ⊎ (p ≡ Some TAU) → (with_l with_u : Bool) (mean_l mean_u v : Float) → Within H v
     → Within (H + 7) (lift p with_l with_u mean_l mean_u v)
 unfolding lift
-lift_within H few p (inl e) with_l with_u mean_l mean_u v h = subst (λ (q : Period). Within (H + 7) (lift q with_l with_u mean_l mean_u v)) (sym e) (within_more H (H + 7) v (omega arith) h)
-lift_within H few p (inr e) with_l with_u mean_l mean_u v h = subst (λ (q : Period). Within (H + 7) (lift q with_l with_u mean_l mean_u v)) (sym e) (at-lift (with_l && (not with_u && lt mean_u mean_l)))
+lift_within H few p (inl e) with_l with_u mean_l mean_u v h = subst (λ (q : Option Float). Within (H + 7) (lift q with_l with_u mean_l mean_u v)) (sym e) (within_more H (H + 7) v (omega arith) h)
+lift_within H few p (inr e) with_l with_u mean_l mean_u v h = subst (λ (q : Option Float). Within (H + 7) (lift q with_l with_u mean_l mean_u v)) (sym e) (at-lift (with_l && (not with_u && lt mean_u mean_l)))
   where
     at-lift : (t : Bool) → Within (H + 7) (cond t (v ⊕ TAU) v)
     at-lift true = add_within H 7 v TAU (held_small (H + 7) (omega arith)) h turn_within

@@ -9,12 +9,12 @@ use borrow.Author.Tests.{lt-ltb}
 use lib.Dec.{leb, lit<, lit≤}
 use lib.ListN.{length, take, drop, length-map, length-take, length-drop}
 use lib.Ieee.{Float}
+use Rattle.std.proofs.Common.{Some, None}
 use Rattle.numbers.specs.Constants.{TAU, 10^-6}
 use Rattle.numbers.specs.Within.{Within}
 use Rattle.numbers.specs.declared.math.Vec3.{Vec3}
 use Rattle.numbers.proofs.Magnitude.{within_more}
 use Rattle.numbers.proofs.math.Frames.{In, Framed, Billion, frame_in_lem}
-use Rattle.surfaces.specs.declared.surface.Period.TheVariants.{Every, None}
 use Rattle.surfaces.specs.declared.surface.Surface.{Surface}
 use Rattle.surfaces.specs.declared.surface.Surface.TheVariants.{Plane, Cylinder, Cone, Sphere, Torus}
 use Rattle.surfaces.specs.Domains.{u_period, v_period}
@@ -102,7 +102,7 @@ pieces_some (n ∷ ns) xs (and h hs) l =
 
 -- ---- periods
 
-pub either_u : (s : Surface) → (u_period s ≡ None) ⊎ (u_period s ≡ Every TAU)
+pub either_u : (s : Surface) → (u_period s ≡ None) ⊎ (u_period s ≡ Some TAU)
 unfolding u_period
 either_u Plane = inl refl
 either_u (Cylinder R) = inr refl
@@ -110,7 +110,7 @@ either_u (Cone R a) = inr refl
 either_u (Sphere R) = inr refl
 either_u (Torus R r) = inr refl
 
-pub either_v : (s : Surface) → (v_period s ≡ None) ⊎ (v_period s ≡ Every TAU)
+pub either_v : (s : Surface) → (v_period s ≡ None) ⊎ (v_period s ≡ Some TAU)
 unfolding v_period
 either_v Plane = inl refl
 either_v (Cylinder R) = inl refl

@@ -11,11 +11,11 @@ use lib.Dec.{leb, lit≤}
 use lib.Pow.{pow_mono}
 use lib.ListN.{length, drop}
 use lib.Ieee.{Float}
+use Rattle.std.proofs.Common.{Some, None}
 use Rattle.numbers.specs.Within.{Within}
 use Rattle.numbers.specs.declared.math.Vec3.{Vec3}
 use Rattle.numbers.proofs.Magnitude.{within_more}
 use Rattle.numbers.proofs.math.Frames.{In, Billion}
-use Rattle.surfaces.specs.declared.surface.Period.TheVariants.{Every, None}
 use Rattle.surfaces.specs.declared.surface.Surface.TheVariants.{Plane, Cylinder, Cone, Sphere, Torus}
 use Rattle.surfaces.specs.Domains.{u_period, v_period, period_length}
 use Rattle.numbers.specs.Constants.{plus_zero, TAU}
@@ -90,7 +90,7 @@ v_way k a b = go (leb k cone) refl
     go true e = record { given = lit≤ tt; moved = lit≤ tt; most = lit≤ tt; turns = inr (v_open k a b (leb-true k cone e)) }
     go false e = record { given = lit≤ tt; moved = lit≤ tt; most = lit≤ tt; turns = either (either_v (surface_of k a b)) }
       where
-        either : (v_period (surface_of k a b) ≡ None) ⊎ (v_period (surface_of k a b) ≡ Every TAU)
+        either : (v_period (surface_of k a b) ≡ None) ⊎ (v_period (surface_of k a b) ≡ Some TAU)
             → ((period_length (v_period (surface_of k a b)) ≡ TAU) × ◌≡◌ {A = ℕ} 64 64) ⊎ (period_length (v_period (surface_of k a b)) ≡ plus_zero)
         either (inl p) = inr (ap period_length p)
         either (inr p) = inl (ap period_length p, refl)

@@ -5,6 +5,7 @@ use native.Mathlib.Omega.{arith}
 use lib.Dec.{lit<, lit≤}
 use lib.ListN.{length-map}
 use lib.Ieee.{Float, neg, le, of_bits}
+use Rattle.std.proofs.Common.{Option, Some, None}
 use Rattle.numbers.specs.Constants.{H}
 use Rattle.numbers.specs.Within.{Within, EachUv}
 use Rattle.numbers.specs.declared.math.Frame.{Frame}
@@ -15,8 +16,6 @@ use Rattle.numbers.proofs.Fractions.{turn_within}
 use Rattle.numbers.proofs.Magnitude.{held_small, within_more, pow_more, neg_within, sub_within, pick_within, zero_within}
 use Rattle.numbers.proofs.math.Frames.{In, Framed}
 use Rattle.surfaces.specs.declared.options.Resolved.{Resolved}
-use Rattle.surfaces.specs.declared.surface.Period.{Period}
-use Rattle.surfaces.specs.declared.surface.Period.TheVariants.{Every, None}
 use Rattle.surfaces.specs.declared.surface.Surface.{Surface}
 use Rattle.surfaces.specs.declared.surface.Surface.TheVariants.{Plane, Cylinder, Cone, Sphere, Torus}
 use Rattle.surfaces.specs.Domains.{full_turn, domain_of}
@@ -83,10 +82,10 @@ corners_within (Torus R r) o =
 -- ---- their positions
 
 -- the far end of a parameter that comes round is taken at the near one
-wrap_within : (B : ℕ) (p : Period) (i : Interval) (t : Float) → Within B i.lo → Within B t → Within B (wrap_of p i t)
+wrap_within : (B : ℕ) (p : Option Float) (i : Interval) (t : Float) → Within B i.lo → Within B t → Within B (wrap_of p i t)
 unfolding wrap_of
 wrap_within B None i t v w = w
-wrap_within B (Every p) i t v w = pick_within B i.lo t v w (le i.hi t)
+wrap_within B (Some p) i t v w = pick_within B i.lo t v w (le i.hi t)
 
 module _ (f : Frame) (w : Framed f) where
   -- of a surface whose domain has bounded ends

@@ -4,8 +4,8 @@ use mathlib.Core.Path.{◌≡◌, refl, sym, ap, ◌∙◌}
 use mathlib.Core.List.{List, [], ◌∷◌, map, map-map}
 use lib.Ieee.{Float}
 use lib.ListN.{length}
+use Rattle.std.proofs.Common.{Option}
 use Rattle.numbers.specs.declared.math.Vec3.{Vec3}
-use Rattle.surfaces.specs.declared.surface.Period.{Period}
 use Rattle.surfaces.specs.Domains.{u_period}
 use Rattle.loops.specs.Wrap.{net_wrap}
 use Rattle.tables.specs.Corners.{Corners, us}
@@ -15,7 +15,7 @@ use Rattle.call.specs.Paths.{signed_area}
 use Rattle.loop_records.specs.Loops.{record_of, records_from}
 use Rattle.loop_records.proofs.Recorded.{wraps_recorded}
 
-pub areas_shown : (p : Period) (start : ℕ) (ls : List (Corners Vec3)) → map (λ (l : LoopRecord). l.area) (records_from p start ls) ≡ map signed_area ls
+pub areas_shown : (p : Option Float) (start : ℕ) (ls : List (Corners Vec3)) → map (λ (l : LoopRecord). l.area) (records_from p start ls) ≡ map signed_area ls
 unfolding records_from record_of
 areas_shown p start [] = refl
 areas_shown p start (r ∷ ls) = ap (λ (more : List Float). signed_area r ∷ more) (areas_shown p (start + length r) ls)

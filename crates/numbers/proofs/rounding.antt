@@ -1,5 +1,3 @@
 pub mod Laws
 pub mod Meaning
-pub mod Cast
 pub mod Count
-mod CastSigned

@@ -1,5 +1,5 @@
 -- Vectors of three reals, as in the Rust (`math.rs`): each operation is rounded once, in the order written.
-use Rattle.std.specs.Prelude.{Bool, true, false, ◌&&◌, Float}
+use Rattle.std.specs.Prelude.{cond, ◌&&◌, Option, Some, None, unwrap_or, Float}
 use Rattle.std.specs.Float.Ieee.{lt}
 use Rattle.std.specs.Float.Ieee.Scale.{finite}
 use Rattle.numbers.specs.Constants.{plus_zero, one, shortest}
@@ -7,8 +7,6 @@ use Rattle.numbers.specs.Rounded.{◌⊕◌, ◌⊖◌, ◌⊗◌, ◌⊘◌}
 use Rattle.numbers.specs.Order.{abs_of}
 use Rattle.numbers.specs.Sqrt.{sqrt_of}
 use Rattle.numbers.specs.declared.math.Vec3.{Vec3}
-use Rattle.numbers.specs.declared.math.Direction.{Direction}
-use Rattle.numbers.specs.declared.math.Direction.TheVariants.{Unit, Short}
 
 abbrev pub VX : Vec3
 VX = record { x = one; y = plus_zero; z = plus_zero }
@@ -42,36 +40,27 @@ unfoldable pub length_of : Vec3 → Float
 unfolding sqrt_of
 length_of a = sqrt_of (dot_of a a)
 
-abbrev pub pick_direction : Bool → Direction → Direction → Direction
-pick_direction true a b = a
-pick_direction false a b = b
-
 -- a times 1 / length, where the length n is finite and above 2 ^ -511
-abbrev pub direction_at : Float → Vec3 → Direction
-direction_at n a = pick_direction (finite n && lt shortest n) (Unit (times_of a (one ⊘ n))) Short
+abbrev pub direction_at : Float → Vec3 → Option Vec3
+direction_at n a = cond (finite n && lt shortest n) (Some (times_of a (one ⊘ n))) None
 
-unfoldable pub direction_of : Vec3 → Direction
+unfoldable pub direction_of : Vec3 → Option Vec3
 unfolding length_of
 direction_of a = direction_at (length_of a) a
 
-abbrev pub or_of : Direction → Vec3 → Vec3
-or_of (Unit d) f = d
-or_of Short f = f
+abbrev pub or_of : Option Vec3 → Vec3 → Vec3
+or_of d f = unwrap_or d f
 
 unfoldable pub normalized_or : Vec3 → Vec3 → Vec3
 unfolding direction_of
 normalized_or a f = or_of (direction_of a) f
 
-abbrev pub pick_vector : Bool → Vec3 → Vec3 → Vec3
-pick_vector true a b = a
-pick_vector false a b = b
-
 -- the axis that a is least along: x where it is less than y and z, else the lesser of y and z, z of equals
 abbrev pub lesser_at : Float → Float → Vec3
-lesser_at y z = pick_vector (lt y z) VY VZ
+lesser_at y z = cond (lt y z) VY VZ
 
 abbrev pub least_at : Float → Float → Float → Vec3
-least_at x y z = pick_vector (lt x y && lt x z) VX (lesser_at y z)
+least_at x y z = cond (lt x y && lt x z) VX (lesser_at y z)
 
 unfoldable pub least_axis : Vec3 → Vec3
 unfolding abs_of

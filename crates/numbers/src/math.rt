@@ -1,13 +1,15 @@
 // Points, directions and frames of `math.rs`, each operation in the order of the Rust and rounded
 // once.
 ghost use Rattle.std.specs.Prelude.{◌≡◌};
-ghost use Rattle.numbers.specs.Vectors.{plus_of, minus_of, times_of, dot_of, cross_of, length_of, direction_of, or_of, normalized_or, lesser_at, least_at, least_axis, perpendicular_of};
+ghost use Rattle.numbers.specs.Vectors.{plus_of, minus_of, times_of, dot_of, cross_of, length_of, direction_of, normalized_or, lesser_at, least_at, least_axis, perpendicular_of};
 ghost use Rattle.numbers.specs.Frames.{frame_of, y_of, polar_of};
 ghost use Rattle.numbers.specs.Position.{same};
 
-use super::order::abs;
 use super::root::sqrt;
 use super::trig::sin_cos;
+
+// 2^-511, the root of the least normal real.
+const SHORTEST: f64 = 1.4916681462400413e-154;
 
 #[derive(Clone, Copy)]
 pub struct Vec2 {
@@ -22,14 +24,6 @@ pub struct Vec3 {
     pub x: f64,
     pub y: f64,
     pub z: f64,
-}
-
-// What normalizing finds: a vector of length one, or none where the length is too small, too large
-// or a NaN.
-#[derive(Clone, Copy)]
-pub enum Direction {
-    Unit(Vec3),
-    Short,
 }
 
 #[derive(Clone, Copy)]
@@ -96,12 +90,7 @@ impl Vec3 {
     pub fn same(self, o: Vec3) -> bool
         ensures { result ≡ same self o }
     {
-        if self.x == o.x {
-            if self.y == o.y {
-                return self.z == o.z;
-            }
-        }
-        false
+        self == o
     }
 
     pub fn length(self) -> f64
@@ -111,16 +100,15 @@ impl Vec3 {
     }
 
     // The vector times 1 / length, where the length is finite and above 2^-511.
-    pub fn try_normalized(self) -> Direction
+    pub fn try_normalized(self) -> Option<Vec3>
         ensures { result ≡ direction_of self }
     {
         let n = self.length();
-        if n > 1.4916681462400413e-154 {
-            if n < 1.0 / 0.0 {
-                return Direction::Unit(self.times(1.0 / n));
-            }
+        if n.is_finite() && n > SHORTEST {
+            Some(self.times(1.0 / n))
+        } else {
+            None
         }
-        Direction::Short
     }
 
     pub fn normalized_or(self, fallback: Vec3) -> Vec3
@@ -133,7 +121,7 @@ impl Vec3 {
     fn least_axis(self) -> Vec3
         ensures { result ≡ least_axis self }
     {
-        least_of(abs(self.x), abs(self.y), abs(self.z))
+        least_of(self.x.abs(), self.y.abs(), self.z.abs())
     }
 
     pub fn any_perpendicular(self) -> Vec3
@@ -151,17 +139,15 @@ impl Vec3 {
 fn least_of(x: f64, y: f64, z: f64) -> Vec3
     ensures { result ≡ least_at x y z }
 {
-    if x < y {
-        if x < z {
-            return Vec3 {
-                x: 1.0,
-                y: 0.0,
-                z: 0.0,
-            };
+    if x < y && x < z {
+        Vec3 {
+            x: 1.0,
+            y: 0.0,
+            z: 0.0,
         }
-        return lesser_of(y, z);
+    } else {
+        lesser_of(y, z)
     }
-    lesser_of(y, z)
 }
 
 fn lesser_of(y: f64, z: f64) -> Vec3
@@ -178,17 +164,6 @@ fn lesser_of(y: f64, z: f64) -> Vec3
             x: 0.0,
             y: 0.0,
             z: 1.0,
-        }
-    }
-}
-
-impl Direction {
-    pub fn unwrap_or(self, fallback: Vec3) -> Vec3
-        ensures { result ≡ or_of self fallback }
-    {
-        match self {
-            Direction::Unit(d) => d,
-            Direction::Short => fallback,
         }
     }
 }

@@ -55,13 +55,7 @@ fn padding(m: u64) -> u64
     requires { (0 < m) × (m < 4 ^ 27) }
     ensures { Padded m result }
 {
-    let mut t = m;
-    let mut k = 0u64;
-    while t < LEAST {
-        t = 4 * t;
-        k += 1;
-    }
-    k + 26
+    52 - m.ilog2() as u64 / 2
 }
 
 // The root of m * 4^h units of 2^-1074.

@@ -85,32 +85,3 @@ pub fn ceil(x: f64) -> f64
         x
     }
 }
-
-// Rust's `x as usize`: x without its fraction, kept to what a usize holds, and 0 for a NaN.
-pub fn as_usize(x: f64) -> usize
-    ensures { result ≡ Ieee.to_unsigned 64 x }
-{
-    if x > -1.0 {
-        if x < 18446744073709551616.0 {
-            return std::num::truncating_f64_to_u64(x) as usize;
-        }
-        return usize::MAX;
-    }
-    0
-}
-
-// Rust's `x as i32`: x without its fraction, kept to what an i32 holds, and 0 for a NaN.
-pub fn as_i32(x: f64) -> i32
-    ensures { result ≡ Ieee.to_signed 31 x }
-{
-    if x < 2147483648.0 {
-        if -2147483649.0 < x {
-            return std::num::truncating_f64_to_i64(x) as i32;
-        }
-        return -2147483648;
-    }
-    if 0.0 < x {
-        return 2147483647;
-    }
-    0
-}

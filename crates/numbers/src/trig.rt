@@ -17,28 +17,34 @@ const FRAC_PI_2: f64 = 1.5707963267948966;
 
 const PI: f64 = 3.141592653589793;
 
-fn divisor(sine: bool, j: u32) -> u32
-    requires { (0 < j) × (j ≤ 8) }
-    ensures { result ≡ divisor_of sine j }
-{
-    if sine {
-        2 * j * (2 * j + 1)
-    } else {
-        (2 * j - 1) * (2 * j)
-    }
+// The series of sin r / r, and that of cos r.
+#[derive(Clone, Copy)]
+enum Series {
+    Sine,
+    Cosine,
 }
 
-// The series of sin r / r or of cos r in w = r * r.
-fn series(sine: bool, w: f64) -> f64
-    ensures { result ≡ series_from sine w 8 one }
-{
-    let mut s = 1.0;
-    let mut j = 8u32;
-    while j > 0 {
-        s = 1.0 - (w * s) / (divisor(sine, j) as f64);
-        j -= 1;
+impl Series {
+    fn divisor(self, j: u32) -> u32
+        requires { (0 < j) × (j ≤ 8) }
+        ensures { result ≡ divisor_of self j }
+    {
+        match self {
+            Series::Sine => 2 * j * (2 * j + 1),
+            Series::Cosine => (2 * j - 1) * (2 * j),
+        }
     }
-    s
+
+    // The series in w = r * r.
+    fn at(self, w: f64) -> f64
+        ensures { result ≡ series_from self w 8 one }
+    {
+        let mut s = 1.0;
+        for j in (1..9).rev() {
+            s = 1.0 - (w * s) / (self.divisor(j) as f64);
+        }
+        s
+    }
 }
 
 // From 2^63 on every real is a multiple of 4.
@@ -69,8 +75,8 @@ fn reduced(q: f64, r: f64) -> SinCos
     ensures { result ≡ reduced_of q r }
 {
     let w = r * r;
-    let s = r * series(true, w);
-    let c = series(false, w);
+    let s = r * Series::Sine.at(w);
+    let c = Series::Cosine.at(w);
     match quarter(q) {
         0 => SinCos { sin: s, cos: c },
         1 => SinCos { sin: c, cos: -s },
@@ -82,9 +88,7 @@ fn reduced(q: f64, r: f64) -> SinCos
 pub fn sin_cos(t: f64) -> SinCos
     ensures { result ≡ sincos_of t }
 {
-    if t > 1000.0 {
-        SinCos { sin: 0.0, cos: 0.0 }
-    } else if t < -1000.0 {
+    if t > 1000.0 || t < -1000.0 {
         SinCos { sin: 0.0, cos: 0.0 }
     } else {
         // q stays a real: a whole number would lose the sign of a zero in q * H.
@@ -112,15 +116,13 @@ pub fn acos(c: f64) -> f64
 {
     let mut lo = 0.0;
     let mut hi = PI;
-    let mut n = 60u32;
-    while n > 0 {
+    for _ in 0..60u32 {
         let m = (lo + hi) * 0.5;
         if cos(m) >= c {
             lo = m;
         } else {
             hi = m;
         }
-        n -= 1;
     }
     lo
 }

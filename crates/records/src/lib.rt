@@ -6,7 +6,6 @@ ghost use Rattle.records.specs.Bytes.{number_at, real_at};
 ghost use Rattle.records.specs.Face.{header_size, loops, count, points};
 
 use numbers::bits;
-use numbers::bits::Real;
 
 pub mod check;
 pub mod limits;
@@ -44,10 +43,7 @@ fn real_at(s: &[u8], at: usize) -> f64
     requires { at + 8 ≤ length s.now }
     ensures { result ≡ real_at s.now at }
 {
-    match bits::from_bits(number_at(s, at, 8)) {
-        Real::Value(x) => x,
-        Real::NotANumber => 0.0 / 0.0,
-    }
+    bits::from_bits(number_at(s, at, 8)).unwrap_or(f64::NAN)
 }
 
 fn loops(face: &[u8]) -> usize

@@ -3,7 +3,6 @@ ghost use Rattle.std.specs.Prelude.{◌≡◌, map, get_or};
 ghost use Rattle.std.specs.Float.{nan};
 ghost use Rattle.rings.specs.Choices.{first_of, begins_backward, offset, nearest, on_seam, step_stands, stands_at_the_cut, serve};
 
-use numbers::order::abs;
 use numbers::rounding::round;
 use tables::ring_point::RingPoint;
 
@@ -34,11 +33,12 @@ pub fn begins_backward<T: RingPoint>(ring: &[T]) -> bool
 }
 
 // How far u lies from the cut in periods, whole ones left out.
+#[tactic(auto, using(numbers::proofs::order::Laws::size_is))]
 fn offset(u: f64, cut: f64, period: f64) -> f64
     ensures { result ≡ offset period cut u }
 {
     let x = (u - cut) / period;
-    abs(x - round(x))
+    (x - round(x)).abs()
 }
 
 // Of the open points the first of those nearest the cut.
@@ -60,20 +60,22 @@ pub fn nearest<T: RingPoint>(ring: &[T], cut: f64, period: f64) -> usize
     best
 }
 
+#[tactic(auto, using(numbers::proofs::order::Laws::size_is))]
 fn on_seam(u: f64, cut: f64, period: f64) -> bool
     ensures { result ≡ on_seam period cut u }
 {
-    if abs(u - cut) < 1e-6 {
+    if (u - cut).abs() < 1e-6 {
         return true;
     }
-    abs(u - (cut + period)) < 1e-6
+    (u - (cut + period)).abs() < 1e-6
 }
 
 // Whether the step from a to b is one of constant u on the seam.
+#[tactic(auto, using(numbers::proofs::order::Laws::size_is))]
 fn step_stands(a: f64, b: f64, cut: f64, period: f64) -> bool
     ensures { result ≡ step_stands period cut a b }
 {
-    if abs(b - a) < 1e-9 {
+    if (b - a).abs() < 1e-9 {
         return on_seam(a, cut, period);
     }
     false

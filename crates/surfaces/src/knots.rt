@@ -4,28 +4,25 @@ ghost use Rattle.std.specs.Prelude.{◌≡◌, ◌+◌, ◌-◌, length, drop};
 ghost use Rattle.std.proofs.lemmas.List.Edits.{sets};
 ghost use Rattle.surfaces.specs.Rungs.{division, slack_of, near, kept_divisions, rungs, EndsOn, EndWritten, inner, placed};
 
-use super::options::larger;
-use numbers::order::abs;
-
 // The division i of n even ones from lo to hi.
 pub fn division(lo: f64, hi: f64, n: usize, i: usize) -> f64
     ensures { result ≡ division lo hi n i }
 {
-    let all = larger(n, 1) as u64;
+    let all = n.max(1) as u64;
     lo + (hi - lo) * std::num::nearest_u64_to_f64(i as u64) / std::num::nearest_u64_to_f64(all)
 }
 
 fn slack(lo: f64, hi: f64) -> f64
     ensures { result ≡ slack_of lo hi }
 {
-    abs(hi - lo) * 1e-9
+    (hi - lo).abs() * 1e-9
 }
 
 // Whether x is too near the rung kept before it.
 fn near(slack: f64, x: f64, last: f64) -> bool
     ensures { result ≡ near slack x last }
 {
-    abs(x - last) <= slack
+    (x - last).abs() <= slack
 }
 
 // How many rungs there are beside the first: at least one where the bounds differ.
@@ -36,19 +33,14 @@ pub fn merge_even_steps(lo: f64, hi: f64, n: usize) -> usize
     let e = slack(lo, hi);
     let mut last = division(lo, hi, n, 0);
     let mut k: usize = 0;
-    let mut i: usize = 0;
-    while i < n {
-        i += 1;
-        let x = division(lo, hi, n, i);
+    for i in 0..n {
+        let x = division(lo, hi, n, i + 1);
         if !near(e, x, last) {
             k += 1;
             last = x;
         }
     }
-    if lo != hi {
-        return larger(k, 1);
-    }
-    k
+    if lo != hi { k.max(1) } else { k }
 }
 
 // A store at k - from, where there is such a place.
@@ -73,10 +65,8 @@ pub fn merge_even(lo: f64, hi: f64, n: usize, from: usize, out: &mut [f64])
     let mut last = division(lo, hi, n, 0);
     put(out, from, 0, last);
     let mut k: usize = 0;
-    let mut i: usize = 0;
-    while i < n {
-        i += 1;
-        let x = division(lo, hi, n, i);
+    for i in 0..n {
+        let x = division(lo, hi, n, i + 1);
         if !near(e, x, last) {
             k += 1;
             put(out, from, k, x);
@@ -84,14 +74,8 @@ pub fn merge_even(lo: f64, hi: f64, n: usize, from: usize, out: &mut [f64])
         }
     }
     if lo != hi {
-        put(out, from, larger(k, 1), hi);
+        put(out, from, k.max(1), hi);
     }
-}
-
-fn less_one(k: usize) -> usize
-    ensures { result ≡ k - 1 }
-{
-    if k > 0 { k - 1 } else { 0 }
 }
 
 // How many rungs there are beside the first and the last: as many as of the divisions kept.
@@ -100,7 +84,7 @@ pub fn inner_count(lo: f64, hi: f64, n: usize) -> usize
     ensures ends_on { EndsOn lo hi (result + 1) (rungs lo hi n) }
     ensures as_kept { result ≡ length (inner (kept_divisions lo hi n)) }
 {
-    less_one(merge_even_steps(lo, hi, n))
+    merge_even_steps(lo, hi, n).saturating_sub(1)
 }
 
 // Writes the rungs between the first and the last, as many as there is room for, and answers how

@@ -1,11 +1,11 @@
 // The tolerances of `options.rs`, and how many segments they give an arc.
-ghost use Rattle.std.specs.Prelude.{◌≡◌, max};
-ghost use Rattle.surfaces.specs.Segments.{clamp_of, sag_angle, angle_step_of, segments_of};
+ghost use Rattle.std.specs.Prelude.{◌≡◌};
+ghost use Rattle.surfaces.specs.Segments.{sag_angle, angle_step_of, segments_of};
 
-use numbers::order;
-use numbers::order::abs;
-use numbers::rounding::{as_usize, ceil};
+use numbers::order::{max, min};
+use numbers::rounding::ceil;
 use numbers::trig::acos;
+use std::num::saturating_f64_to_usize;
 
 // How far a chord may leave its arc, how far a step may turn, and how few segments an edge may have.
 #[derive(Clone, Copy)]
@@ -22,7 +22,7 @@ impl Resolved {
         ensures { result ≡ sag_angle self r }
     {
         if r > self.sag {
-            2.0 * acos(clamp(1.0 - self.sag / r, -1.0, 1.0))
+            2.0 * acos((1.0 - self.sag / r).clamp(-1.0, 1.0))
         } else {
             self.angle
         }
@@ -32,7 +32,7 @@ impl Resolved {
     pub fn angle_step_for_radius(self, r: f64) -> f64
         ensures { result ≡ angle_step_of self r }
     {
-        order::max(order::min(self.sag_angle(abs(r)), self.angle), 1e-3)
+        max(min(self.sag_angle(r.abs()), self.angle), 1e-3)
     }
 
     // Segments that sweep `total` radians on the radius r.
@@ -40,28 +40,7 @@ impl Resolved {
         ensures { result ≡ segments_of self r total }
     {
         let step = self.angle_step_for_radius(r);
-        larger(
-            larger(as_usize(ceil(abs(total) / step)), self.min_edge_segments),
-            1,
-        )
+        let segments = saturating_f64_to_usize(ceil(total.abs() / step));
+        segments.max(self.min_edge_segments).max(1)
     }
-}
-
-fn clamp(x: f64, lo: f64, hi: f64) -> f64
-    ensures { result ≡ clamp_of x lo hi }
-{
-    if x < lo {
-        lo
-    } else if x > hi {
-        hi
-    } else {
-        x
-    }
-}
-
-// Rust's `max` of two counts.
-pub fn larger(a: usize, b: usize) -> usize
-    ensures { result ≡ max a b }
-{
-    if a < b { b } else { a }
 }

@@ -2,9 +2,9 @@
 ghost use Rattle.std.specs.Prelude.{◌≡◌};
 ghost use Rattle.surfaces.specs.Steps.{v_steps_of, direction_steps_of, around_steps, along_steps};
 
-use super::options::{Resolved, larger};
+use super::options::Resolved;
 use super::surface::Surface;
-use numbers::order::{abs, max};
+use numbers::order::max;
 use numbers::trig::cos;
 
 #[derive(Clone, Copy)]
@@ -14,13 +14,14 @@ pub enum Axis {
 }
 
 // Steps of a wall from one v to another: a straight line needs no more than the least number.
+#[tactic(auto, unfolding(crate::specs::Steps::v_steps_of))]
 pub fn v_steps(surface: Surface, from: f64, to: f64, options: Resolved) -> usize
     ensures { result ≡ v_steps_of surface from to options }
 {
     match surface {
-        Surface::Plane => larger(options.min_edge_segments, 1),
-        Surface::Cylinder { .. } => larger(options.min_edge_segments, 1),
-        Surface::Cone { .. } => larger(options.min_edge_segments, 1),
+        Surface::Plane | Surface::Cylinder { .. } | Surface::Cone { .. } => options
+            .min_edge_segments
+            .max(1),
         Surface::Sphere { radius } => options.segments_for_arc(radius, to - from),
         Surface::Torus { minor_radius, .. } => options.segments_for_arc(minor_radius, to - from),
     }
@@ -44,21 +45,20 @@ pub fn direction_steps(
 }
 
 // A parallel of a sphere shrinks toward the poles; of a torus the widest circle counts.
+#[tactic(auto, using(numbers::proofs::order::Laws::size_is))]
 fn around_steps(surface: Surface, span: f64, v: f64, options: Resolved) -> usize
     ensures { result ≡ around_steps surface span v options }
 {
     match surface {
         Surface::Sphere { radius } => options.segments_for_arc(
-            radius * max(abs(cos(v)), 1e-3),
+            radius * max(cos(v).abs(), 1e-3),
             span,
         ),
         Surface::Torus {
             major_radius,
             minor_radius,
-        } => options.segments_for_arc(major_radius + abs(minor_radius), span),
-        Surface::Plane => 1,
-        Surface::Cylinder { .. } => 1,
-        Surface::Cone { .. } => 1,
+        } => options.segments_for_arc(major_radius + minor_radius.abs(), span),
+        Surface::Plane | Surface::Cylinder { .. } | Surface::Cone { .. } => 1,
     }
 }
 
@@ -68,8 +68,6 @@ fn along_steps(surface: Surface, span: f64, options: Resolved) -> usize
     match surface {
         Surface::Sphere { radius } => options.segments_for_arc(radius, span),
         Surface::Torus { minor_radius, .. } => options.segments_for_arc(minor_radius, span),
-        Surface::Plane => 1,
-        Surface::Cylinder { .. } => 1,
-        Surface::Cone { .. } => 1,
+        Surface::Plane | Surface::Cylinder { .. } | Surface::Cone { .. } => 1,
     }
 }

@@ -2,10 +2,9 @@
 // the operation order of the Rust, and parameter domains.
 ghost use Rattle.std.specs.Prelude.{◌≡◌};
 ghost use Rattle.surfaces.specs.Points.{plane_of, raised_of, sphere_of, torus_of, point_of};
-ghost use Rattle.surfaces.specs.Domains.{unbounded, full_turn, u_period, v_period, u_range, v_range, cone_range, domain_of, period_length};
+ghost use Rattle.surfaces.specs.Domains.{unbounded, full_turn, u_period, v_period, u_range, v_range, cone_range, domain_of};
 
 use numbers::math::{Frame, Interval, Vec2, Vec3};
-use numbers::order::abs;
 use numbers::trig::{sin_cos, tan};
 
 const TAU: f64 = 6.283185307179586;
@@ -35,55 +34,39 @@ pub enum Surface {
     },
 }
 
-// After how much a parameter gives the same points again.
-#[derive(Clone, Copy)]
-pub enum Period {
-    Every(f64),
-    None,
-}
-
-impl Period {
-    // 0 where the parameter does not come round.
-    pub fn length(self) -> f64
-        ensures { result ≡ period_length self }
-    {
-        match self {
-            Period::Every(p) => p,
-            Period::None => 0.0,
-        }
-    }
-}
-
+// The ranges of the parameters, and after how much each gives the same points again, if it does.
 #[derive(Clone, Copy)]
 pub struct Domain {
     pub u: Interval,
     pub v: Interval,
-    pub u_period: Period,
-    pub v_period: Period,
+    pub u_period: Option<f64>,
+    pub v_period: Option<f64>,
 }
 
 impl Surface {
-    pub fn u_period(self) -> Period
+    #[tactic(auto, unfolding(crate::specs::Domains::u_period))]
+    pub fn u_period(self) -> Option<f64>
         ensures { result ≡ u_period self }
     {
         match self {
-            Surface::Plane => Period::None,
-            Surface::Cylinder { .. } => Period::Every(TAU),
-            Surface::Cone { .. } => Period::Every(TAU),
-            Surface::Sphere { .. } => Period::Every(TAU),
-            Surface::Torus { .. } => Period::Every(TAU),
+            Surface::Plane => None,
+            Surface::Cylinder { .. }
+            | Surface::Cone { .. }
+            | Surface::Sphere { .. }
+            | Surface::Torus { .. } => Some(TAU),
         }
     }
 
-    pub fn v_period(self) -> Period
+    #[tactic(auto, unfolding(crate::specs::Domains::v_period))]
+    pub fn v_period(self) -> Option<f64>
         ensures { result ≡ v_period self }
     {
         match self {
-            Surface::Plane => Period::None,
-            Surface::Cylinder { .. } => Period::None,
-            Surface::Cone { .. } => Period::None,
-            Surface::Sphere { .. } => Period::None,
-            Surface::Torus { .. } => Period::Every(TAU),
+            Surface::Plane
+            | Surface::Cylinder { .. }
+            | Surface::Cone { .. }
+            | Surface::Sphere { .. } => None,
+            Surface::Torus { .. } => Some(TAU),
         }
     }
 
@@ -92,10 +75,10 @@ impl Surface {
     {
         match self {
             Surface::Plane => unbounded(),
-            Surface::Cylinder { .. } => full_turn(),
-            Surface::Cone { .. } => full_turn(),
-            Surface::Sphere { .. } => full_turn(),
-            Surface::Torus { .. } => full_turn(),
+            Surface::Cylinder { .. }
+            | Surface::Cone { .. }
+            | Surface::Sphere { .. }
+            | Surface::Torus { .. } => full_turn(),
         }
     }
 
@@ -103,8 +86,7 @@ impl Surface {
         ensures { result ≡ v_range self }
     {
         match self {
-            Surface::Plane => unbounded(),
-            Surface::Cylinder { .. } => unbounded(),
+            Surface::Plane | Surface::Cylinder { .. } => unbounded(),
             Surface::Cone { radius, half_angle } => cone_range(radius, tan(half_angle)),
             Surface::Sphere { .. } => Interval {
                 lo: -FRAC_PI_2,
@@ -167,7 +149,7 @@ fn full_turn() -> Interval
 fn cone_range(radius: f64, tan: f64) -> Interval
     ensures { result ≡ cone_range radius tan }
 {
-    if abs(tan) > 1e-12 {
+    if tan.abs() > 1e-12 {
         let apex = -radius / tan;
         if tan > 0.0 {
             return Interval {

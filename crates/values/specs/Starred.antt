@@ -1,5 +1,5 @@
 -- 01, "Values to hold": those marked * are proved together as one listed check of the meanings. The prover computes each of them; none is assumed.
-use Rattle.std.specs.Prelude.{◌≡◌, refl, true, List, [], ◌∷◌, pos, negsuc, Float}
+use Rattle.std.specs.Prelude.{◌≡◌, refl, true, List, [], ◌∷◌, pos, negsuc, Float, Some}
 use Rattle.std.specs.Float.{binary64}
 use Rattle.std.specs.Float.Ieee.{add, sub, mul, div, neg, lt, le, eq, of_bits, to_bits, of_int, to_signed}
 use Rattle.numbers.specs.Constants.{plus_zero, half, one, H, TAU}
@@ -12,7 +12,6 @@ use Rattle.loops.specs.Area.{area_of, cross_sum, cross_at}
 use Rattle.loops.specs.Branch.{nearest_branch}
 use Rattle.loops.specs.Wrap.{net_wrap, wrap_every, turns_counted}
 use Rattle.loops.specs.Rings.{begun, closed}
-use Rattle.surfaces.specs.declared.surface.Period.TheVariants.{Every}
 use Rattle.surfaces.specs.Rungs.{rungs}
 use Rattle.surfaces.specs.Values.{three, halves, no_width}
 use Rattle.closed_region.specs.Table.{boxes_of}
@@ -53,11 +52,11 @@ pub record Starred : Type 0 where
   pub branch_of_6 : nearest_branch (count 6) (count 0) (count 4) ≡ neg (count 2)
   pub branch_of_5 : nearest_branch (count 5) (count 0) (count 0) ≡ count 5
   -- period 4: travel 4.5 wraps 1, 4.75 wraps 0, 3.5 wraps 1, 2 wraps 0, -8 wraps -2
-  pub wraps_4·5 : net_wrap (Every (count 4)) (travels (count 9 ⊘ count 2)) ≡ pos 1
-  pub wraps_4·75 : net_wrap (Every (count 4)) (travels (count 19 ⊘ count 4)) ≡ pos 0
-  pub wraps_3·5 : net_wrap (Every (count 4)) (travels (count 7 ⊘ count 2)) ≡ pos 1
-  pub wraps_2 : net_wrap (Every (count 4)) (travels (count 2)) ≡ pos 0
-  pub wraps_minus_8 : net_wrap (Every (count 4)) (travels (neg (count 8))) ≡ negsuc 1
+  pub wraps_4·5 : net_wrap (Some (count 4)) (travels (count 9 ⊘ count 2)) ≡ pos 1
+  pub wraps_4·75 : net_wrap (Some (count 4)) (travels (count 19 ⊘ count 4)) ≡ pos 0
+  pub wraps_3·5 : net_wrap (Some (count 4)) (travels (count 7 ⊘ count 2)) ≡ pos 1
+  pub wraps_2 : net_wrap (Some (count 4)) (travels (count 2)) ≡ pos 0
+  pub wraps_minus_8 : net_wrap (Some (count 4)) (travels (neg (count 8))) ≡ negsuc 1
   -- corners (0,0), (4,0), (0,3): area 6; reversed -6
   pub area : area_of (count 0 ∷ count 4 ∷ count 0 ∷ []) (count 0 ∷ count 0 ∷ count 3 ∷ []) ≡ count 6
   pub area_reversed : area_of (count 0 ∷ count 4 ∷ count 0 ∷ []) (count 3 ∷ count 0 ∷ count 0 ∷ []) ≡ neg (count 6)

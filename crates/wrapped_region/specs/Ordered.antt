@@ -1,10 +1,8 @@
 -- Two rings in their order: 01, "Bands": "Rings are ordered by mean v, equals as they stand; the torus swaps or lifts by travel."
-use Rattle.std.specs.Prelude.{Bool, cond, not, ◌&&◌, map, Float}
+use Rattle.std.specs.Prelude.{Bool, cond, not, ◌&&◌, map, Float, Option, Some, None}
 use Rattle.std.specs.Float.Ieee.{lt}
 use Rattle.numbers.specs.Rounded.{◌⊕◌}
 use Rattle.numbers.specs.declared.math.Vec3.{Vec3}
-use Rattle.surfaces.specs.declared.surface.Period.{Period}
-use Rattle.surfaces.specs.declared.surface.Period.TheVariants.{Every, None}
 use Rattle.tables.specs.Corners.{Corners, move_v}
 use Rattle.bands.specs.Rings.{Face}
 use Rattle.bands.specs.Strip.{Setting}
@@ -14,9 +12,9 @@ use Rattle.bands.specs.Band.{first_is_lower, lift, mean_v, pick}
 unfoldable pub crosses : Bool → Bool → Float → Float → Bool
 crosses with_l with_u mean_l mean_u = with_l && (not with_u && lt mean_u mean_l)
 
-unfoldable pub lifted_by : Period → Bool → Float → Float
+unfoldable pub lifted_by : Option Float → Bool → Float → Float
 lifted_by None t v = v
-lifted_by (Every p) t v = cond t (v ⊕ p) v
+lifted_by (Some p) t v = cond t (v ⊕ p) v
 
 -- with₁ and with₂ say whether the first and the later ring go with the face
 module _ (S : Setting Vec3) (with₁ with₂ : Bool) (face : Face Vec3) where

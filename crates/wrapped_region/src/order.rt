@@ -3,8 +3,6 @@ ghost use Rattle.std.specs.Prelude.{◌≡◌, not, if◌then◌else◌};
 ghost use Rattle.bands.specs.Band.{first_is_lower};
 ghost use Rattle.wrapped_region.specs.Ordered.{crosses};
 
-use surfaces::surface::Period;
-
 // Whether a ring goes with the face: u rising, or falling where the face's sense is not the surface's.
 pub fn goes_with(sense: bool, falls: bool) -> bool
     ensures { result ≡ (if sense then not falls else falls) }
@@ -17,12 +15,12 @@ pub fn goes_with(sense: bool, falls: bool) -> bool
 
 // Whether the first of two rings is the lower one. Where v comes round, the one that goes with the
 // face is lower if the other does not.
-pub fn first_is_lower(period: Period, with1: bool, with2: bool, mean1: f64, mean2: f64) -> bool
+pub fn first_is_lower(period: Option<f64>, with1: bool, with2: bool, mean1: f64, mean2: f64) -> bool
     ensures { result ≡ first_is_lower period with1 with2 mean1 mean2 }
 {
     match period {
-        Period::None => !(mean2 < mean1),
-        Period::Every(p) => {
+        None => !(mean2 < mean1),
+        Some(p) => {
             if mean2 < mean1 {
                 if with2 {
                     return false;

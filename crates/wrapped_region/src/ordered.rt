@@ -14,16 +14,16 @@ use super::order::{crosses, first_is_lower};
 use numbers::math::Frame;
 use strip::closing::{Closed, TooMany, close_strip};
 use surfaces::options::Resolved;
-use surfaces::surface::{Period, Surface};
+use surfaces::surface::Surface;
 use tables::moves::{Move, move_v};
 
 // The upper ring one period up along v, where the band crosses v's seam.
-fn lift_ring(t: &mut [f64], period: Period, crosses: bool)
+fn lift_ring(t: &mut [f64], period: Option<f64>, crosses: bool)
     ensures { rows t.new ≡ map (move_v (lifted_by period crosses)) (rows t.old) }
 {
     match period {
-        Period::None => {}
-        Period::Every(p) => {
+        None => {}
+        Some(p) => {
             if crosses {
                 move_v(t, Move::Up(p));
             }

@@ -11,7 +11,9 @@ use lib.ListN.{length, get_or, get_or-eq_default}
 use lib.Ieee.{Float, nan, lt, fits}
 use Rattle.std.specs.Prelude.{Option, None, Some, is_some, option_to_list}
 use Rattle.numbers.specs.Constants.{plus_zero, 10^-9}
-use Rattle.numbers.specs.Order.{abs_of, max_of}
+use Rattle.std.specs.Float.{float_with_sign}
+use Rattle.numbers.specs.Order.{max_of}
+use Rattle.numbers.proofs.order.Laws.{size_is}
 use Rattle.numbers.specs.Rounded.{◌⊗◌}
 use Rattle.lists.proofs.Folds.{Folding, folding, folding_turn, folding_end}
 use Rattle.closed_region.specs.declared.boxes.Bounds.{Bounds}
@@ -142,12 +144,12 @@ pub record Largest (areas : List Float) (best i : ℕ) : Type 0 where
 pub largest : (areas : List Float) → Largest areas 0 0
 largest areas = record { far = omega arith; low = omega arith; is = unfold last_largest in refl }
 
-module _ (areas : List Float) (best i : ℕ) (x y : Float) (k : Largest areas best i) (h : i < length areas) (p : x ≡ abs_of (get_or areas i nan)) (q : y ≡ abs_of (get_or areas best nan)) where
+module _ (areas : List Float) (best i : ℕ) (x y : Float) (k : Largest areas best i) (h : i < length areas) (p : x ≡ float_with_sign false (get_or areas i nan)) (q : y ≡ float_with_sign false (get_or areas best nan)) where
   pub largest_stays : lt x y ≡ true → Largest areas best (i + 1)
-  largest_stays t = record { far = omega arith; low = omega (arith, k.low); is = unfold last_largest in sym (rw (add-one, ← k.is, ← p, ← q, t)) }
+  largest_stays t = record { far = omega arith; low = omega (arith, k.low); is = unfold last_largest in sym (rw (add-one, ← k.is, ← size_is (get_or areas i nan), ← size_is (get_or areas best nan), ← p, ← q, t)) }
 
   pub largest_moves : lt x y ≡ false → Largest areas i (i + 1)
-  largest_moves t = record { far = omega arith; low = omega arith; is = unfold last_largest in rw (add-one, ← k.is, ← p, ← q, t) }
+  largest_moves t = record { far = omega arith; low = omega arith; is = unfold last_largest in rw (add-one, ← k.is, ← size_is (get_or areas i nan), ← size_is (get_or areas best nan), ← p, ← q, t) }
 
 pub largest_end : (areas : List Float) (best i : ℕ) → Largest areas best i → length areas ≤ i → best ≡ last_largest areas (length areas)
 largest_end areas best i k h = let e : i ≡ length areas = omega (arith, k.far) in k.is ∙ rw e

@@ -18,5 +18,5 @@ returns c = λ s f room.
     (falls-taken _ _ _ _ _ _ _ _ _ _ f _ (b_inside _ _ _ _ _ _ _ _ _ _ f) _ _ other.ensures.0
     (falls_held _ other.result.travel (sfits_of c.struct_told-2-1.given.1.1.1.0.1) c.falls-2.ensures))
     (counts-taken _ _ _ _ _ _ _ _ _ _ f _ _ _ _ (omega arith) c.count_holes.ensures c.shorter-k.ensures c.pick.ensures)
-    (holes-taken _ _ _ _ _ _ _ _ _ _ f _ _ room c.pick_holes.ensures) _ _ _ _ _ c.u_period.ensures c.length-period.ensures
+    (holes-taken _ _ _ _ _ _ _ _ _ _ f _ _ room c.pick_holes.ensures) _ _ _ _ _ c.u_period.ensures c.unwrap_or-period.ensures
     c.band_between.ensures

@@ -1,9 +1,8 @@
 -- Which bits are a real's: all but those above an infinity's, the sign left out.
-use Rattle.std.proofs.Common.{◌≡◌, ℕ, ◌*◌, ◌%◌, ◌^◌, ◌<◌, ◌≤◌, Bool, true, false, not, T, sym, refl, ◌∙◌, subst, true≢false, le-ltb, lt-ltb}
+use Rattle.std.proofs.Common.{Some, None, ◌≡◌, ℕ, ◌*◌, ◌%◌, ◌^◌, ◌<◌, ◌≤◌, Bool, true, false, not, T, sym, refl, ◌∙◌, subst, true≢false, le-ltb, lt-ltb}
 use mathlib.Core.Bool.{false≢true}
 use lib.Ieee.{Float, nan, inf, fin, binary64, of_bits, nan_bits, is_nan}
 use lib.Ieee.Bits.{nan_bits_is, nan_bits_above}
-use Rattle.numbers.specs.declared.bits.Real.TheVariants.{Value, NotANumber}
 use Rattle.numbers.specs.Bits.{value_of, real_of}
 
 abbrev infinity_bits : ℕ
@@ -15,20 +14,20 @@ real-bits b h = nan_bits_above binary64 b ∙ le-ltb infinity_bits (b % 2 ^ 63) 
 pub not_nan-bits : (b : ℕ) → b % 2 ^ 63 ≤ infinity_bits → T (not (nan_bits binary64 b))
 not_nan-bits b h = subst (λ (z : Bool). T (not z)) (sym (real-bits b h)) tt
 
-value_of_lem : (x : Float) → is_nan x ≡ false → Value x ≡ value_of x
+value_of_lem : (x : Float) → is_nan x ≡ false → Some x ≡ value_of x
 unfolding is_nan
 value_of_lem nan h = absurd (true≢false h)
 value_of_lem (inf s) h = refl
 value_of_lem (fin s m e) h = refl
 
-nan_of : (x : Float) → is_nan x ≡ true → NotANumber ≡ value_of x
+nan_of : (x : Float) → is_nan x ≡ true → None ≡ value_of x
 unfolding is_nan
 nan_of nan h = refl
 nan_of (inf s) h = absurd (false≢true h)
 nan_of (fin s m e) h = absurd (false≢true h)
 
-pub real_is : (b : ℕ) → b % 2 ^ 63 ≤ infinity_bits → Value (of_bits binary64 b) ≡ real_of b
+pub real_is : (b : ℕ) → b % 2 ^ 63 ≤ infinity_bits → Some (of_bits binary64 b) ≡ real_of b
 real_is b h = value_of_lem (of_bits binary64 b) (sym (nan_bits_is binary64 b) ∙ real-bits b h)
 
-pub nan_is : (b : ℕ) → infinity_bits < b % 2 ^ 63 → NotANumber ≡ real_of b
+pub nan_is : (b : ℕ) → infinity_bits < b % 2 ^ 63 → None ≡ real_of b
 nan_is b h = nan_of (of_bits binary64 b) (sym (nan_bits_is binary64 b) ∙ nan_bits_above binary64 b ∙ lt-ltb infinity_bits (b % 2 ^ 63) h)

@@ -1,5 +1,5 @@
 -- Frames made of an origin, an axis and a reference direction of at most 10^9 in size are bounded, whatever fallbacks they take.
-use Rattle.std.proofs.Common.{◌≡◌, ℕ, suc, ◌+◌, ◌*◌, ◌^◌, ◌<◌, ◌≤◌, Bool, true, false, ◌&&◌, T, sym, refl, subst, arith, lit<, lit≤, pow_mono}
+use Rattle.std.proofs.Common.{◌≡◌, ℕ, suc, ◌+◌, ◌*◌, ◌^◌, ◌<◌, ◌≤◌, Bool, true, false, cond, ◌&&◌, Some, None, T, sym, refl, subst, arith, lit<, lit≤, pow_mono}
 use lib.Ieee.{Float, nan, binary64, fits, div, lt, le, of_bits}
 use lib.Ieee.Fits.{add-fits, mul-fits}
 use lib.Ieee.Scale.{finite}
@@ -8,12 +8,11 @@ use Rattle.numbers.specs.Order.{abs_of}
 use Rattle.numbers.specs.Rounded.{◌⊕◌, ◌⊗◌, ◌⊘◌}
 use Rattle.numbers.specs.Sqrt.{sqrt_of}
 use Rattle.numbers.specs.Trig.{sincos_of}
-use Rattle.numbers.specs.Vectors.{VX, VY, VZ, plus_of, minus_of, times_of, dot_of, cross_of, length_of, direction_of, pick_direction, pick_vector, minor, or_of, normalized_or, least_axis, perpendicular_of}
+use Rattle.numbers.specs.Vectors.{VX, VY, VZ, plus_of, minus_of, times_of, dot_of, cross_of, length_of, direction_of, minor, or_of, normalized_or, least_axis, perpendicular_of}
 use Rattle.numbers.specs.Frames.{across_of, frame_at, frame_of, y_of, polar_of}
 use Rattle.numbers.specs.Within.{Within, NonNeg, EachXyz}
 use Rattle.numbers.specs.declared.math.Vec3.{Vec3}
 use Rattle.numbers.specs.declared.math.Frame.{Frame}
-use Rattle.numbers.specs.declared.math.Direction.TheVariants.{Unit, Short}
 use Rattle.numbers.proofs.Magnitude.{held_small, within_more, within_finite, add_within, mul_within, add-pow, sub-pow, mul-pow, pow_more}
 use Rattle.numbers.proofs.Signed.{le_trans_float}
 use Rattle.numbers.proofs.Squares.{square_nonneg, add_nonneg}
@@ -124,7 +123,7 @@ normalized_in : (v f : Vec3) → In (2 ^ 37) v → In 2 f → In 2 (normalized_o
 unfolding normalized_or direction_of length_of
 normalized_in v f w u = go (finite (sqrt_of (dot_of v v))) (lt shortest (sqrt_of (dot_of v v))) refl refl
   where
-    go : (a b : Bool) → finite (sqrt_of (dot_of v v)) ≡ a → lt shortest (sqrt_of (dot_of v v)) ≡ b → In 2 (or_of (pick_direction (a && b) (Unit (times_of v (div binary64 one (sqrt_of (dot_of v v))))) Short) f)
+    go : (a b : Bool) → finite (sqrt_of (dot_of v v)) ≡ a → lt shortest (sqrt_of (dot_of v v)) ≡ b → In 2 (or_of (cond (a && b) (Some (times_of v (div binary64 one (sqrt_of (dot_of v v))))) None) f)
     go true true p q = unit_in v w (sqrt_of (dot_of v v)) refl q (subst T (sym p) tt)
     go true false p q = u
     go false b p q = u
@@ -146,7 +145,7 @@ least_in : (a : Vec3) → In (2 ^ 0) (least_axis a)
 unfolding least_axis
 least_in a = go (lt (abs_of a.x) (abs_of a.y) && lt (abs_of a.x) (abs_of a.z)) (lt (abs_of a.y) (abs_of a.z))
   where
-    go : (p q : Bool) → In (2 ^ 0) (pick_vector p VX (pick_vector q VY VZ))
+    go : (p q : Bool) → In (2 ^ 0) (cond p VX (cond q VY VZ))
     go true q = unit-x
     go false true = unit-y
     go false false = unit-z

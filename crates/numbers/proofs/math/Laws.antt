@@ -1,64 +1,38 @@
--- Lengths, and calls composed into the definitions of vectors and frames.
-use Rattle.std.proofs.Common.{◌≡◌, Bool, true, false, ◌&&◌, sym, refl, ap, ◌∙◌}
-use mathlib.Core.Bool.{false≢true}
-use lib.Ieee.{Float, nan, inf, fin, binary64, lt, of_bits, mul, div}
-use lib.Ieee.Scale.{finite}
-use Rattle.numbers.specs.Constants.{plus_zero, one, shortest}
-use Rattle.numbers.specs.Order.{abs_of}
+-- Calls composed into the definitions of vectors and frames.
+use Rattle.std.proofs.Common.{◌≡◌, Bool, true, false, Option, Some, None, ap, ◌∙◌}
+use Rattle.std.specs.Float.{float_with_sign, float_is_finite}
+use lib.Ieee.{Float, binary64, lt, mul, div}
+use Rattle.numbers.specs.Constants.{one, shortest}
 use Rattle.numbers.specs.Trig.{sincos_of}
 use Rattle.numbers.specs.declared.trig.SinCos.{SinCos}
-use Rattle.numbers.specs.Vectors.{VX, VZ, length_of, direction_at, direction_of, or_of, normalized_or, least_at, least_axis, perpendicular_of, pick_direction, times_of, plus_of, minus_of, dot_of, cross_of}
+use Rattle.numbers.specs.Vectors.{VX, VZ, length_of, direction_at, direction_of, or_of, normalized_or, least_at, least_axis, perpendicular_of, times_of, plus_of, minus_of, dot_of, cross_of}
 use Rattle.numbers.specs.Frames.{across_of, frame_at, frame_of, y_of, polar_of}
 use Rattle.numbers.specs.declared.math.Frame.{Frame}
 use Rattle.numbers.specs.declared.math.Vec3.{Vec3}
-use Rattle.numbers.specs.declared.math.Direction.{Direction}
-use Rattle.numbers.specs.declared.math.Direction.TheVariants.{Unit, Short}
-
--- ---- the length's tests
-
-inf_is : div binary64 one plus_zero ≡ inf false
-unfolding div of_bits
-inf_is = refl
-
-finite_is : (n : Float) → lt shortest n ≡ true → lt n (inf false) ≡ finite n
-unfolding lt of_bits
-finite_is nan h = refl
-finite_is (inf true) h = absurd (false≢true h)
-finite_is (inf false) h = refl
-finite_is (fin s m e) h = refl
-
-pub unit_is : (n : Float) (a : Vec3) → lt shortest n ≡ true → lt n (div binary64 one plus_zero) ≡ true → Unit (times_of a (div binary64 one n)) ≡ direction_at n a
-unit_is n a h k =
-    let f : finite n ≡ true = sym (finite_is n h) ∙ ap (lt n) (sym inf_is) ∙ k in
-    rw (f, h)
-
-pub long_is : (n : Float) (a : Vec3) → lt shortest n ≡ true → lt n (div binary64 one plus_zero) ≡ false → Short ≡ direction_at n a
-long_is n a h k =
-    let f : finite n ≡ false = sym (finite_is n h) ∙ ap (lt n) (sym inf_is) ∙ k in
-    rw f
-
-pub short_is : (n : Float) (a : Vec3) → lt shortest n ≡ false → Short ≡ direction_at n a
-short_is n a h = go (finite n)
-  where
-    go : (b : Bool) → Short ≡ pick_direction (b && lt shortest n) (Unit (times_of a (div binary64 one n))) Short
-    go true = rw h
-    go false = refl
+use Rattle.numbers.proofs.order.Laws.{size_is, finite_is}
 
 -- ---- calls composed
-pub normalized_law : (a f : Vec3) (d : Direction) (r : Vec3) → d ≡ direction_of a → r ≡ or_of d f → r ≡ normalized_or a f
+pub normalized_law : (a f : Vec3) (d : Option Vec3) (r : Vec3) → d ≡ direction_of a → r ≡ or_of d f → r ≡ normalized_or a f
 unfolding normalized_or
 normalized_law a f d r p q = cc
 
-pub direction_law : (a : Vec3) (n : Float) (r : Direction) → n ≡ length_of a → r ≡ direction_at n a → r ≡ direction_of a
+pub direction_law : (a : Vec3) (n : Float) (r : Option Vec3) → n ≡ length_of a → r ≡ direction_at n a → r ≡ direction_of a
 unfolding direction_of
 direction_law a n r p q = q ∙ ap (λ (z : Float). direction_at z a) p
 
-pub unit_law : (a t : Vec3) (n : Float) → lt shortest n ≡ true → lt n (div binary64 one plus_zero) ≡ true → t ≡ times_of a (div binary64 one n) → Unit t ≡ direction_at n a
-unit_law a t n h k e = ap Unit e ∙ unit_is n a h k
+module _ (a : Vec3) {n : Float} (length : n ≡ length_of a) {f : Bool} (test : f ≡ float_is_finite n) where
+  pub has_direction : f ≡ true → lt shortest n ≡ true → {t : Vec3} → t ≡ times_of a (div binary64 one n) → Some t ≡ direction_of a
+  has_direction h k e = direction_law a n _ length (rw (← finite_is n, ← test, h, k, e))
 
-pub least_law : (a : Vec3) (x y z : Float) (r : Vec3) → x ≡ abs_of a.x → y ≡ abs_of a.y → z ≡ abs_of a.z → r ≡ least_at x y z → r ≡ least_axis a
+  pub not_finite : f ≡ false → None ≡ direction_of a
+  not_finite h = direction_law a n _ length (rw (← finite_is n, ← test, h))
+
+  pub too_short : f ≡ true → lt shortest n ≡ false → None ≡ direction_of a
+  too_short h k = direction_law a n _ length (rw (← finite_is n, ← test, h, k))
+
+pub least_law : (a : Vec3) (x y z : Float) (r : Vec3) → x ≡ float_with_sign false a.x → y ≡ float_with_sign false a.y → z ≡ float_with_sign false a.z → r ≡ least_at x y z → r ≡ least_axis a
 unfolding least_axis
-least_law a x y z r p q s e = e ∙ rw (p, q, s)
+least_law a x y z r p q s e = e ∙ rw (p ∙ size_is a.x, q ∙ size_is a.y, s ∙ size_is a.z)
 
 pub perpendicular_law : (a w x r : Vec3) → w ≡ least_axis a → x ≡ cross_of a w → r ≡ normalized_or x VX → r ≡ perpendicular_of a
 unfolding perpendicular_of

@@ -1,5 +1,5 @@
 -- What each function of the module `root` needs.
-use Rattle.std.proofs.Common.{◌≡◌, ℕ, zero, suc, ◌+◌, ◌-◌, ◌*◌, ◌/◌, ◌%◌, ◌^◌, ◌<◌, ◌≤◌, true, false, not, T, sym, refl, ap, ◌∙◌, subst, true≢false, le_trans, le_of_eq, lt_of_lt_of_le, lt_of_le_of_lt, le_of_lt, mul_assoc, mul_comm, div-lt_iff_lt-mul, lt_of_mul-lt-mul_right, mul-lt-mul_of_pos_right, mul-pos, mul-one, mul_right_comm, mul-div_cancel, sub-one, arith, ltb→lt, pow_pos, pow_mono, pow-add, ltb-false, ltb-true}
+use Rattle.std.proofs.Common.{◌≡◌, ℕ, zero, suc, ◌+◌, ◌-◌, ◌*◌, ◌/◌, ◌%◌, ◌^◌, ◌<◌, ◌≤◌, true, false, not, T, sym, refl, ap, ◌∙◌, subst, true≢false, le_trans, le_of_eq, lt_of_lt_of_le, lt_of_le_of_lt, le_of_lt, mul-le-mul_right, mul_assoc, mul_comm, div-lt_iff_lt-mul, lt_of_mul-lt-mul_right, mul-lt-mul_of_pos_right, mul-pos, mul_right_comm, mul-div_cancel, sub-one, arith, ltb→lt, pow_pos, pow_mono, pow-add, ltb-false, ltb-true}
 use mathlib.Core.Bool.{false≢true}
 use lib.Ieee.{Float, nan, inf, fin, binary64, up, down, size, to_bits, of_bits, fits, is_nan, lt, div}
 use lib.Ieee.Digits.{size-le}
@@ -10,7 +10,7 @@ use lib.Ieee.Positive.{first_pos}
 use Rattle.numbers.specs.Root.{Rooted, Digit, Padded}
 use Rattle.numbers.specs.Sqrt.{root_float, sqrt_of}
 use Rattle.numbers.proofs.Reals.{Zero, Nought, fits_under, not_zero}
-use Rattle.numbers.proofs.root.Whole.{pow_lt_back, square_lt-back, square_next, four-pow, four_next}
+use Rattle.numbers.proofs.root.Whole.{pow_lt_back, square_lt-back, square_next, four-pow, four_pos, four_next}
 use Rattle.numbers.proofs.root.Near.{root_down, root_up}
 use Rattle.numbers.proofs.root.Pattern.{made, decoded, digits_of, shift_of}
 
@@ -49,32 +49,23 @@ zero_digit x zeros q r q' r' n p d =
 pub no_digit : (n bits : ℕ) → bits ≡ 0 → n < 4 ^ bits → Rooted n 0 0
 no_digit n bits e h = let a : n < 4 ^ 0 = subst (λ (z : ℕ). n < 4 ^ z) e h in record { whole = omega arith; rest = omega arith }
 
--- ---- `padding`: t is m with k digits 0 behind it
-pub record Padding (m t k : ℕ) : Type 0 where
-  pub is : t ≡ m * 4 ^ k
-  pub least : 2 ^ (k + k) ≤ t
-  pub under : t < 4 ^ 27
-
-pub padding_none : (m : ℕ) → 0 < m → m < 4 ^ 27 → Padding m m 0
-padding_none m h l = record { is = sym (mul-one m); least = omega arith; under = l }
-
-pub padding_more : (m t k : ℕ) → Padding m t k → t < 2 ^ 52 → Padding m (4 * t) (k + 1)
-padding_more m t k p h =
-    let l = p.least in
-    let two : 2 ^ (k + 1 + (k + 1)) ≡ 2 ^ (k + k) * 4 = ap (λ (z : ℕ). 2 ^ z) (twice k) ∙ pow-add 2 (k + k) 2 in
-    record { is = mul_comm 4 t ∙ ap (λ (z : ℕ). z * 4) p.is ∙ mul_assoc m (4 ^ k) 4 ∙ ap (λ (z : ℕ). m * z) (sym (pow-add 4 k 1)); least = omega arith; under = omega arith }
+-- ---- `padding`: m has r + 1 bits, so r / 2 + 1 digits of base 4
+pub padded : (m r : ℕ) → m < 4 ^ 27 → 2 ^ r ≤ m → m < 2 * 2 ^ r → Padded m (52 - r / 2)
+padded m r u l h =
+    let k : ℕ = r / 2 in
+    let four : 4 ^ k ≡ 2 ^ (k + k) = four-pow k ∙ sym (pow-add 2 k k) in
+    let low : 4 ^ k ≤ m = le_trans (le_of_eq four) (le_trans (pow_mono (omega arith)) l) in
+    let top : 2 * 2 ^ r ≤ 4 ^ k * 4 = le_trans (le_of_eq (mul_comm 2 (2 ^ r) ∙ sym (pow-add 2 r 1))) (le_trans (pow_mono (omega arith)) (le_of_eq (pow-add 2 (k + k) 2 ∙ ap (λ (z : ℕ). z * 4) (sym four)))) in
+    let few : k < 27 = (let n : k + k < 54 = pow_lt_back (k + k) 54 (lt_of_le_of_lt (le_trans (le_of_eq (sym four)) low) u) in omega arith) in
+    let whole : 4 ^ k * 4 ^ (52 - k) ≡ 4 ^ 52 = sym (pow-add 4 k (52 - k)) ∙ ap (λ (z : ℕ). 4 ^ z) (back k few) in
+    record {
+      least = le_trans (le_of_eq (sym whole)) (mul-le-mul_right (4 ^ (52 - k)) low);
+      under = lt_of_lt_of_le (mul-lt-mul_of_pos_right (lt_of_lt_of_le h top) (four_pos (52 - k))) (le_of_eq (mul_right_comm (4 ^ k) 4 (4 ^ (52 - k)) ∙ ap (λ (z : ℕ). z * 4) whole));
+      few = omega arith;
+    }
   where
-    twice : (k : ℕ) → k + 1 + (k + 1) ≡ k + k + 2
-    twice k = omega arith
-
-pub padding_few : (m t k : ℕ) → Padding m t k → k < 27
-padding_few m t k p = let h : k + k < 54 = pow_lt_back (k + k) 54 (lt_of_le_of_lt p.least p.under) in omega arith
-
-pub padding_ends : (m t k : ℕ) → Padding m t k → 2 ^ 52 ≤ t → Padded m (k + 26)
-padding_ends m t k p h =
-    let e : m * 4 ^ (k + 26) ≡ t * 4 ^ 26 = ap (λ (z : ℕ). m * z) (pow-add 4 k 26) ∙ sym (mul_assoc m (4 ^ k) (4 ^ 26)) ∙ ap (λ (z : ℕ). z * 4 ^ 26) (sym p.is) in
-    let u = p.under in
-    record { least = omega arith; under = omega arith; few = let f = padding_few m t k p in omega arith }
+    back : (k : ℕ) → k < 27 → k + (52 - k) ≡ 52
+    back k h = omega arith
 
 -- ---- `even`
 scaled : (m h k N : ℕ) → k ≤ h + 537 → N ≡ m * 4 ^ k → m * 4 ^ h * 4 ^ 537 ≡ N * 4 ^ (h + 537 - k)

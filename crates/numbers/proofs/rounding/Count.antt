@@ -1,5 +1,5 @@
 -- How many steps of at least c a length of at most A takes, as a whole number taken up: at most A * L, where c is at least 1 / L.
-use Rattle.std.proofs.Common.{◌≡◌, ℕ, ◌+◌, ◌-◌, ◌*◌, ◌^◌, ◌<◌, ◌≤◌, min, Bool, true, false, cond, T, ◌⊎◌, pos, sym, refl, ap, ◌∙◌, subst, inl, inr, true≢false, le_trans, le_of_eq, mul_assoc, mul_comm, add-mul, lt_of_mul-lt-mul_right, mul-le-mul_left, one-mul, le_of_mul-le-mul_right, mul_left_comm, arith, lit≤, ltb-false}
+use Rattle.std.proofs.Common.{◌≡◌, ℕ, ◌+◌, ◌-◌, ◌*◌, ◌^◌, ◌<◌, ◌≤◌, min, Bool, true, false, cond, T, ◌⊎◌, ℤ, pos, sym, refl, ap, ◌∙◌, subst, inl, inr, true≢false, le_trans, le_of_eq, mul_assoc, mul_comm, add-mul, lt_of_mul-lt-mul_right, mul-le-mul_left, one-mul, le_of_mul-le-mul_right, mul_left_comm, div-one, arith, lit<, lit≤, ltb-false}
 use mathlib.Core.Bool.{false≢true}
 use lib.Ieee.{Float, nan, inf, fin, binary64, up, down, div, unlike, lt, fits, to_unsigned}
 use lib.Ieee.Fits.{down_pos, div-fits}
@@ -9,8 +9,8 @@ use Rattle.numbers.specs.Order.{abs_of, max_of}
 use Rattle.numbers.specs.Round.{cut_up, ceil_of}
 use Rattle.numbers.specs.Within.{Within, Held, Beyond, NonNeg}
 use Rattle.numbers.proofs.Magnitude.{div_within}
-use Rattle.numbers.proofs.rounding.Meaning.{cut-above, ceil_means}
-use Rattle.numbers.proofs.rounding.Cast.{ceil_cast}
+use Rattle.numbers.proofs.Reals.{cut-value}
+use Rattle.numbers.proofs.rounding.Meaning.{cut-above, ceil_exact, ceil_means}
 
 abs_within : (B : ℕ) (x : Float) → Within B x → Within B (abs_of x)
 unfolding abs_of
@@ -31,6 +31,12 @@ negative_cast nan n v = refl
 negative_cast (inf s) n v = absurd v
 negative_cast (fin true m e) n v = refl
 negative_cast (fin false m e) n v = absurd (false≢true v.0)
+
+-- the least whole number that is at least x, where the integers reach it
+ceil_cast : (m : ℕ) (e : ℤ) → T (fits binary64 (fin false m e)) → to_unsigned 64 (ceil_of (fin false m e)) ≡ min (cut_up (m * up e) (down e)) (2 ^ 64 - 1)
+ceil_cast m e f =
+    let n = cut_up (m * up e) (down e) in
+    cut-value (ceil_of (fin false m e)) n 1 (lit< tt) (ceil_exact m e f) ∙ ap (λ (q : ℕ). min q (2 ^ 64 - 1)) (div-one n)
 
 pub cast_within : (B : ℕ) (x : Float) → T (fits binary64 x) → Within B x → to_unsigned 64 (ceil_of x) ≤ B
 cast_within B nan f w = absurd w

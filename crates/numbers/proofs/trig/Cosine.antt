@@ -8,7 +8,8 @@ use lib.Ieee.Exact.{HasValue}
 use lib.Ieee.Order.{kept, drop}
 use Rattle.numbers.specs.Constants.{plus_zero, thousand, one, H}
 use Rattle.numbers.specs.Round.{round_away}
-use Rattle.numbers.specs.Trig.{series_from, quarter_of, reduced_of, sincos_in, sincos_of, pick}
+use Rattle.numbers.specs.Trig.{series_from, quarter_of, reduced_of, sincos_in, sincos_of}
+use Rattle.numbers.specs.declared.trig.Series.TheVariants.{Sine, Cosine}
 use Rattle.numbers.specs.Within.{Within, Beyond}
 use Rattle.numbers.proofs.Magnitude.{units_shape, round_within, held_small, mul_within, sub_within}
 use Rattle.numbers.proofs.Monotone.{div-at}
@@ -220,14 +221,14 @@ product_beyond (fin t m e) s p u =
 
 zero_cos : (s : Bool) (r : Float) → Within 1 r → Beyond 32 (reduced_of (fin s 0 (pos 0)) r).cos
 unfolding reduced_of quarter_of
-zero_cos true r w = upper_beyond (series_from false (mul binary64 r r) 8 one) (series_upper false 7 (mul binary64 r r) one (lit≤ tt) (square_frac r w) one_frac)
-zero_cos false r w = upper_beyond (series_from false (mul binary64 r r) 8 one) (series_upper false 7 (mul binary64 r r) one (lit≤ tt) (square_frac r w) one_frac)
+zero_cos true r w = upper_beyond (series_from Cosine (mul binary64 r r) 8 one) (series_upper Cosine 7 (mul binary64 r r) one (lit≤ tt) (square_frac r w) one_frac)
+zero_cos false r w = upper_beyond (series_from Cosine (mul binary64 r r) 8 one) (series_upper Cosine 7 (mul binary64 r r) one (lit≤ tt) (square_frac r w) one_frac)
 
 one_cos : (s : Bool) (r : Float) → Rest r → Beyond 32 (reduced_of (fin s 1 (pos 0)) r).cos
 unfolding reduced_of quarter_of
-one_cos true r p = product_beyond r (series_from true (mul binary64 r r) 8 one) p (series_upper true 7 (mul binary64 r r) one (lit≤ tt) (square_frac r p.most) one_frac)
+one_cos true r p = product_beyond r (series_from Sine (mul binary64 r r) 8 one) p (series_upper Sine 7 (mul binary64 r r) one (lit≤ tt) (square_frac r p.most) one_frac)
 one_cos false r p =
-    beyond_neg 32 (mul binary64 r (series_from true (mul binary64 r r) 8 one)) (product_beyond r (series_from true (mul binary64 r r) 8 one) p (series_upper true 7 (mul binary64 r r) one (lit≤ tt) (square_frac r p.most) one_frac))
+    beyond_neg 32 (mul binary64 r (series_from Sine (mul binary64 r r) 8 one)) (product_beyond r (series_from Sine (mul binary64 r r) 8 one) p (series_upper Sine 7 (mul binary64 r r) one (lit≤ tt) (square_frac r p.most) one_frac))
 
 in_cos : (s : Bool) (m : ℕ) (e : ℤ) → m * up e * 2 ≤ 3 * down e → Beyond 32 (sincos_in (fin s m e)).cos
 unfolding sincos_in
@@ -266,4 +267,4 @@ cos_beyond (inf s) u = absurd u
 cos_beyond (fin s m e) u =
     let p = past s m e u in
     let t : lt thousand (fin s m e) || lt (fin s m e) (neg thousand) ≡ false = ap (λ (b : Bool). b || lt (fin s m e) (neg thousand)) p.0 ∙ p.1 in
-    subst (λ (b : Bool). Beyond 32 (pick b (record { sin = plus_zero; cos = plus_zero }) (sincos_in (fin s m e))).cos) (sym t) (in_cos s m e u)
+    subst (λ (b : Bool). Beyond 32 (cond b (record { sin = plus_zero; cos = plus_zero }) (sincos_in (fin s m e))).cos) (sym t) (in_cos s m e u)

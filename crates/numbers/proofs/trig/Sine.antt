@@ -8,7 +8,8 @@ use lib.Ieee.Order.{kept, drop}
 use lib.Ieee.Scale.{round_same}
 use Rattle.numbers.specs.Constants.{plus_zero, one, thousand, H}
 use Rattle.numbers.specs.Round.{round_away}
-use Rattle.numbers.specs.Trig.{series_from, quarter_of, turned, reduced_of, sincos_in, sincos_of, pick}
+use Rattle.numbers.specs.Trig.{series_from, quarter_of, turned, reduced_of, sincos_in, sincos_of}
+use Rattle.numbers.specs.declared.trig.Series.TheVariants.{Sine, Cosine}
 use Rattle.numbers.specs.declared.trig.SinCos.{SinCos}
 use Rattle.numbers.specs.Within.{Within}
 use Rattle.numbers.proofs.Magnitude.{units_shape, round_within, held_small, held_pow, neg_within, mul_within, between, zero_within}
@@ -237,9 +238,9 @@ reduced_one : (q r : Float) → Within 1 r → Both 1 (reduced_of q r)
 unfolding reduced_of
 reduced_one q r h =
     let w = mul binary64 r r in
-    turned_in (quarter_of q) 1 (mul binary64 r (series_from true w 8 one)) (series_from false w 8 one)
-    (mul_within 1 1 r (series_from true w 8 one) (held_small 1 (lit< tt)) h (upper_within (series_from true w 8 one) (series_upper true 7 w one (lit≤ tt) (square_frac r h) one_frac)))
-    (upper_within (series_from false w 8 one) (series_upper false 7 w one (lit≤ tt) (square_frac r h) one_frac))
+    turned_in (quarter_of q) 1 (mul binary64 r (series_from Sine w 8 one)) (series_from Cosine w 8 one)
+    (mul_within 1 1 r (series_from Sine w 8 one) (held_small 1 (lit< tt)) h (upper_within (series_from Sine w 8 one) (series_upper Sine 7 w one (lit≤ tt) (square_frac r h) one_frac)))
+    (upper_within (series_from Cosine w 8 one) (series_upper Cosine 7 w one (lit≤ tt) (square_frac r h) one_frac))
 
 in_one : (t : Float) → Within 1000 t → Both 1 (sincos_in t)
 unfolding sincos_in
@@ -255,7 +256,7 @@ pub sin_cos_one : (t : Float) → (t ≡ nan → ⊥) → Both 1 (sincos_of t)
 unfolding sincos_of
 sin_cos_one t n = go (lt thousand t) (lt t (neg thousand)) refl refl
   where
-    go : (a b : Bool) → lt thousand t ≡ a → lt t (neg thousand) ≡ b → Both 1 (pick (a || b) (record { sin = plus_zero; cos = plus_zero }) (sincos_in t))
+    go : (a b : Bool) → lt thousand t ≡ a → lt t (neg thousand) ≡ b → Both 1 (cond (a || b) (record { sin = plus_zero; cos = plus_zero }) (sincos_in t))
     go true b p q = (zero_within 1, zero_within 1)
     go false true p q = (zero_within 1, zero_within 1)
     go false false p q = inner (between 1000 thousand t thousand_is p q)

@@ -1,11 +1,13 @@
 -- Both series of sin and cos end between 1 / 2 and 1 where r is at most 1 in size.
-use Rattle.std.proofs.Common.{◌≡◌, ℕ, zero, suc, ◌+◌, ◌-◌, ◌*◌, ◌^◌, ◌<◌, ◌≤◌, Bool, true, false, T, ℤ, pos, negsuc, sym, refl, ap, ◌∙◌, subst, true≢false, le_trans, le_of_eq, mul-le-mul_right, zero-lt-suc, mul-le-mul, mul-pos, one-mul, mul-one, arith, lit<, lit≤}
+use Rattle.std.proofs.Common.{◌≡◌, ℕ, zero, suc, ◌+◌, ◌-◌, ◌*◌, ◌^◌, ◌<◌, ◌≤◌, true, false, T, ℤ, pos, negsuc, sym, refl, ap, ◌∙◌, subst, true≢false, le_trans, le_of_eq, mul-le-mul_right, zero-lt-suc, mul-le-mul, mul-pos, one-mul, mul-one, arith, lit<, lit≤}
 use lib.Ieee.{Float, nan, inf, fin, binary64, up, down, round, sub, mul, div, le, of_bits, of_int}
 use lib.Ieee.Fits.{up_pos, down_pos}
 use lib.Ieee.Exact.{HasValue}
 use lib.Ieee.Back.{round_whole}
 use Rattle.numbers.specs.Constants.{one}
 use Rattle.numbers.specs.Trig.{divisor_of, series_from}
+use Rattle.numbers.specs.declared.trig.Series.{Series}
+use Rattle.numbers.specs.declared.trig.Series.TheVariants.{Sine, Cosine}
 use Rattle.numbers.specs.Within.{Within, NonNeg}
 use Rattle.numbers.proofs.Magnitude.{held_small, mul_within}
 use Rattle.numbers.proofs.Squares.{round_nonneg, square_nonneg}
@@ -117,23 +119,23 @@ step-upper w c n v u h l =
     rest-upper (div binary64 (mul binary64 w c) (of_int binary64 (pos n))) q.0 q.1
 
 -- ---- the series
-divisor_term : (sine : Bool) (j : ℕ) → suc j ≤ 8 → (2 ≤ divisor_of sine (suc j)) × (divisor_of sine (suc j) ≤ 2 ^ 53)
-divisor_term true j h = (
+divisor_term : (kind : Series) (j : ℕ) → suc j ≤ 8 → (2 ≤ divisor_of kind (suc j)) × (divisor_of kind (suc j) ≤ 2 ^ 53)
+divisor_term Sine j h = (
   mul-le-mul {n₁ = 2} {m₁ = 1} {n₂ = 2 * suc j} {m₂ = 2 * suc j + 1} (omega arith) (omega arith),
   le_trans (mul-le-mul {n₁ = 2 * suc j} {m₁ = 2 * suc j + 1} {n₂ = 16} {m₂ = 17} (omega arith) (omega arith)) (lit≤ tt),
 )
-divisor_term false j h = (
+divisor_term Cosine j h = (
   mul-le-mul {n₁ = 1} {m₁ = 2} {n₂ = 2 * suc j - 1} {m₂ = 2 * suc j} (omega arith) (omega arith),
   le_trans (mul-le-mul {n₁ = 2 * suc j - 1} {m₁ = 2 * suc j} {n₂ = 15} {m₂ = 16} (omega arith) (omega arith)) (lit≤ tt),
 )
 
-pub series_upper : (sine : Bool) (j : ℕ) (w s : Float) → suc j ≤ 8 → Frac w → Frac s → Upper (series_from sine w (suc j) s)
+pub series_upper : (kind : Series) (j : ℕ) (w s : Float) → suc j ≤ 8 → Frac w → Frac s → Upper (series_from kind w (suc j) s)
 unfolding series_from
-series_upper sine zero w s h v u = let t = divisor_term sine 0 h in step-upper w s (divisor_of sine 1) v u t.0 t.1
-series_upper sine (suc j) w s h v u =
-    let t = divisor_term sine (suc j) h in
-    let next = step-upper w s (divisor_of sine (suc (suc j))) v u t.0 t.1 in
-    series_upper sine j w (sub binary64 one (div binary64 (mul binary64 w s) (of_int binary64 (pos (divisor_of sine (suc (suc j))))))) (omega arith) v next.frac
+series_upper kind zero w s h v u = let t = divisor_term kind 0 h in step-upper w s (divisor_of kind 1) v u t.0 t.1
+series_upper kind (suc j) w s h v u =
+    let t = divisor_term kind (suc j) h in
+    let next = step-upper w s (divisor_of kind (suc (suc j))) v u t.0 t.1 in
+    series_upper kind j w (sub binary64 one (div binary64 (mul binary64 w s) (of_int binary64 (pos (divisor_of kind (suc (suc j))))))) (omega arith) v next.frac
 
 pub square_frac : (r : Float) → Within 1 r → Frac (mul binary64 r r)
 square_frac r w = to_frac (mul binary64 r r) (square_nonneg 1 r w) (mul_within 1 1 r r (held_small 1 (lit< tt)) w w)

@@ -1,9 +1,9 @@
 -- The two loops over the divisions, on plain values: one counts the rungs, one writes them.
-use Rattle.std.proofs.Common.{◌≡◌, ℕ, suc, ◌+◌, ◌-◌, ◌<◌, ◌≤◌, max, Bool, true, false, cond, not, leb, List, [], ◌∷◌, ◌++◌, length, drop, set, sym, refl, ap, ◌∙◌, add-one, arith, length-set, set-set, le-leb, leb-false, leb-true}
+use Rattle.std.proofs.Common.{◌≡◌, ℕ, suc, ◌+◌, ◌-◌, ◌<◌, ◌≤◌, max, Bool, true, false, cond, leb, List, [], ◌∷◌, ◌++◌, length, drop, set, sym, refl, ap, ◌∙◌, add-one, arith, length-set, set-set, le-leb, leb-false, leb-true}
 use mathlib.Core.List.{drop_last}
 use lib.Seq.{sets, drop-nil, set_out}
 use lib.Ieee.{Float, ne}
-use borrow.Author.Tests.{not-true, not-false, lt-leb}
+use borrow.Author.Tests.{lt-leb}
 use Rattle.surfaces.specs.Rungs.{division, divisions_from, slack_of, near, kept_after, kept_divisions, ended_on, rungs, EndsOn, EndWritten, placed}
 use Rattle.surfaces.proofs.knots.Ended.{ended_is, ended_length}
 use Rattle.surfaces.proofs.knots.Kept.{kept_step}
@@ -148,16 +148,16 @@ module _ (lo hi : Float) (n : ℕ) (e : Float) where
         (count, rungs-end lo hi n r count)
 
     module _ {x : Float} {r : Bool} (more : i < n) (is : x ≡ division lo hi n (i + 1)) (test : r ≡ near e x last) where
-      pub walk_near : not r ≡ false → Walk last k (i + 1)
+      pub walk_near : r ≡ true → Walk last k (i + 1)
       walk_near t =
-          let e : length (left last i) ≡ length (left last (i + 1)) = ap length (left_step last i true more is test (not-false r t)) in
+          let e : length (left last i) ≡ length (left last (i + 1)) = ap length (left_step last i true more is test t) in
           let q = w.counted in
           let f = w.few in
           record { far = omega arith; few = omega arith; counted = omega arith }
 
-      pub walk_far : not r ≡ true → Walk x (k + 1) (i + 1)
+      pub walk_far : r ≡ false → Walk x (k + 1) (i + 1)
       walk_far t =
-          let e : length (left last i) ≡ suc (length (left x (i + 1))) = ap length (left_step last i false more is test (not-true r t)) in
+          let e : length (left last i) ≡ suc (length (left x (i + 1))) = ap length (left_step last i false more is test t) in
           let q = w.counted in
           let f = w.few in
           record { far = omega arith; few = omega arith; counted = omega arith }
@@ -203,15 +203,15 @@ module _ (lo hi : Float) (n : ℕ) (e : Float) where
             (all, end-written lo hi n from os o' all)
 
       module _ {x : Float} {r : Bool} (more : i < n) (is : x ≡ division lo hi n (i + 1)) (test : r ≡ near e x last) where
-        pub writing_near : not r ≡ false → Writing o last k (i + 1)
+        pub writing_near : r ≡ true → Writing o last k (i + 1)
         writing_near t =
             record {
               walked = walk_near w.walked more is test t;
               long = w.long;
-              rest = ap (λ (l : List Float). writes from (suc k) l o) (sym (left_step last i true more is test (not-false r t))) ∙ w.rest;
+              rest = ap (λ (l : List Float). writes from (suc k) l o) (sym (left_step last i true more is test t)) ∙ w.rest;
             }
 
-        pub writing_far : {o' : List Float} → not r ≡ true → o' ≡ placed from (k + 1) x o → Writing o' x (k + 1) (i + 1)
+        pub writing_far : {o' : List Float} → r ≡ false → o' ≡ placed from (k + 1) x o → Writing o' x (k + 1) (i + 1)
         unfolding writes
         writing_far {o'} t put =
             record {
@@ -220,6 +220,6 @@ module _ (lo hi : Float) (n : ℕ) (e : Float) where
               rest =
                   ap (λ (l : List Float). writes from (suc (k + 1)) (left x (i + 1)) l) put
                   ∙ ap (λ (j : ℕ). writes from (suc j) (left x (i + 1)) (placed from j x o)) (add-one k)
-                  ∙ ap (λ (l : List Float). writes from (suc k) l o) (sym (left_step last i false more is test (not-true r t)))
+                  ∙ ap (λ (l : List Float). writes from (suc k) l o) (sym (left_step last i false more is test t))
                   ∙ w.rest;
             }

@@ -1,9 +1,10 @@
 -- Calls composed into the definitions of points and ranges.
 use Rattle.std.proofs.Common.{◌≡◌, true, false, sym, ap, ◌∙◌}
+use Rattle.std.specs.Float.{float_with_sign}
 use lib.Ieee.{Float, neg, lt}
 use Rattle.numbers.specs.Constants.{plus_zero, 10^-12}
 use Rattle.numbers.specs.Rounded.{◌⊕◌, ◌⊗◌, ◌⊘◌}
-use Rattle.numbers.specs.Order.{abs_of}
+use Rattle.numbers.proofs.order.Laws.{size_is}
 use Rattle.numbers.specs.Trig.{sincos_of, tan_of}
 use Rattle.numbers.specs.Vectors.{plus_of, times_of}
 use Rattle.numbers.specs.Frames.{y_of, polar_of}
@@ -43,15 +44,15 @@ unfolding point_of
 cone_law f R a u v e h = cc
 
 -- ---- the range of a cone
-module _ (R t : Float) {a : Float} (size : a ≡ abs_of t) where
+module _ (R t : Float) {a : Float} (size : a ≡ float_with_sign false t) where
   pub opens_up : lt 10^-12 a ≡ true → lt plus_zero t ≡ true → between (neg R ⊘ t) far ≡ cone_range R t
   unfolding cone_range
-  opens_up h k = rw (← size, h, k)
+  opens_up h k = rw (← size_is t, ← size, h, k)
 
   pub opens_down : lt 10^-12 a ≡ true → lt plus_zero t ≡ false → between (neg far) (neg R ⊘ t) ≡ cone_range R t
   unfolding cone_range
-  opens_down h k = rw (← size, h, k)
+  opens_down h k = rw (← size_is t, ← size, h, k)
 
   pub opens_not : {r : Interval} → lt 10^-12 a ≡ false → r ≡ unbounded → r ≡ cone_range R t
   unfolding cone_range
-  opens_not h e = e ∙ rw (← size, h)
+  opens_not h e = e ∙ rw (← size_is t, ← size, h)

@@ -1,20 +1,18 @@
 -- The order of two rings, and whether their band crosses v's seam, case by case.
-use Rattle.std.proofs.Common.{◌≡◌, Bool, true, false, cond, not, ◌&&◌, ◌||◌, sym, refl, ap, ◌∙◌}
+use Rattle.std.proofs.Common.{◌≡◌, Bool, true, false, cond, not, ◌&&◌, ◌||◌, sym, refl, ap, ◌∙◌, Option, Some, None}
 use lib.Ieee.{Float, lt}
-use Rattle.surfaces.specs.declared.surface.Period.{Period}
-use Rattle.surfaces.specs.declared.surface.Period.TheVariants.{Every, None}
 use Rattle.bands.specs.Band.{first_is_lower}
 use Rattle.wrapped_region.specs.Ordered.{crosses}
 
-module _ (period : Period) (a b : Bool) (mean₁ mean₂ : Float) where
+module _ (period : Option Float) (a b : Bool) (mean₁ mean₂ : Float) where
   pub open_order : period ≡ None → not (lt mean₂ mean₁) ≡ first_is_lower period a b mean₁ mean₂
   unfolding first_is_lower
-  open_order e = ap (λ (q : Period). first_is_lower q a b mean₁ mean₂) (sym e)
+  open_order e = ap (λ (q : Option Float). first_is_lower q a b mean₁ mean₂) (sym e)
 
-  module _ (p : Float) (e : period ≡ Every p) where
+  module _ (p : Float) (e : period ≡ Some p) where
     round : (t x y : Bool) → lt mean₂ mean₁ ≡ t → a ≡ x → b ≡ y → cond t (not y && x) (x || not y) ≡ first_is_lower period a b mean₁ mean₂
     unfolding first_is_lower
-    round t x y h ha hb = (λ i. cond (sym h i) (not (sym hb i) && sym ha i) (sym ha i || not (sym hb i))) ∙ ap (λ (q : Period). first_is_lower q a b mean₁ mean₂) (sym e)
+    round t x y h ha hb = (λ i. cond (sym h i) (not (sym hb i) && sym ha i) (sym ha i || not (sym hb i))) ∙ ap (λ (q : Option Float). first_is_lower q a b mean₁ mean₂) (sym e)
 
     pub below_with : lt mean₂ mean₁ ≡ true → b ≡ true → false ≡ first_is_lower period a b mean₁ mean₂
     below_with h hb = round true a true h refl hb

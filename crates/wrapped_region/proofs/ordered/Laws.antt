@@ -1,13 +1,11 @@
 -- Two rings in their order: which is lower, and the upper one lifted.
-use Rattle.std.proofs.Common.{◌≡◌, ℕ, Result, Bool, true, false, cond, not, map, sym, refl, ap, ◌∙◌}
+use Rattle.std.proofs.Common.{◌≡◌, ℕ, Result, Option, Some, None, Bool, true, false, cond, not, map, sym, refl, ap, ◌∙◌}
 use lib.Ieee.{Float}
 use Rattle.numbers.specs.declared.math.Frame.{Frame}
 use Rattle.numbers.specs.declared.math.Vec3.{Vec3}
 use Rattle.surfaces.specs.Domains.{v_period}
 use Rattle.surfaces.specs.declared.options.Resolved.{Resolved}
 use Rattle.surfaces.specs.declared.surface.Surface.{Surface}
-use Rattle.surfaces.specs.declared.surface.Period.{Period}
-use Rattle.surfaces.specs.declared.surface.Period.TheVariants.{Every, None}
 use Rattle.rings.proofs.Carried.{map-unchanged}
 use Rattle.tables.specs.Corners.{Corners, move_v}
 use Rattle.tables.specs.Moves.{moved_by}
@@ -23,11 +21,11 @@ use Rattle.wrapped_region.specs.Ordered.{crosses, lifted_by, first_lower, lower_
 
 -- ---- the upper ring lifted
 
-pub stays_open : (period : Period) (t : Bool) (r : Corners Vec3) → period ≡ None → r ≡ map (move_v (lifted_by period t)) r
+pub stays_open : (period : Option Float) (t : Bool) (r : Corners Vec3) → period ≡ None → r ≡ map (move_v (lifted_by period t)) r
 unfolding lifted_by
 stays_open period t r e = sym ((λ i. map (move_v (lifted_by (e i) t)) r) ∙ map-unchanged r)
 
-module _ (period : Period) (t : Bool) (p : Float) (e : period ≡ Every p) where
+module _ (period : Option Float) (t : Bool) (p : Float) (e : period ≡ Some p) where
   pub lifts : t ≡ true → (r r' : Corners Vec3) → r' ≡ map (move_v (moved_by (Up p))) r → r' ≡ map (move_v (lifted_by period t)) r
   unfolding lifted_by
   lifts h r r' d = d ∙ sym (λ i. map (move_v (lifted_by (e i) (h i))) r)
@@ -36,10 +34,10 @@ module _ (period : Period) (t : Bool) (p : Float) (e : period ≡ Every p) where
   unfolding lifted_by
   stays_low h r = sym ((λ i. map (move_v (lifted_by (e i) (h i))) r) ∙ map-unchanged r)
 
-lift_is : (q : Period) (a b : Bool) (m n : Float) (up : Corners Vec3) → map (move_v (lift q a b m n)) up ≡ map (move_v (lifted_by q (crosses a b m n))) up
+lift_is : (q : Option Float) (a b : Bool) (m n : Float) (up : Corners Vec3) → map (move_v (lift q a b m n)) up ≡ map (move_v (lifted_by q (crosses a b m n))) up
 unfolding lift lifted_by crosses
 lift_is None a b m n up = refl
-lift_is (Every p) a b m n up = refl
+lift_is (Some p) a b m n up = refl
 
 -- ---- which is lower
 
@@ -52,7 +50,7 @@ module _ (S : Setting Vec3) (with₁ with₂ : Bool) (face : Face Vec3) where
       ap (λ (b : Bool). map (move_v (lift S.v_period (cond b with₁ with₂) (cond (not b) with₁ with₂) (mean_v (pick b face)) (mean_v (pick (not b) face)))) (pick (not b) face)) e
       ∙ lift_is S.v_period (cond t with₁ with₂) (cond (not t) with₁ with₂) (mean_v (pick t face)) (mean_v (pick (not t) face)) (pick (not t) face)
 
-  module _ (p : Period) (mean₁ mean₂ : Float) (t crossed : Bool) (period_is : p ≡ S.v_period) (mean₁_is : mean₁ ≡ mean_v face.first)
+  module _ (p : Option Float) (mean₁ mean₂ : Float) (t crossed : Bool) (period_is : p ≡ S.v_period) (mean₁_is : mean₁ ≡ mean_v face.first)
       (mean₂_is : mean₂ ≡ mean_v face.later) (t_is : t ≡ first_is_lower p with₁ with₂ mean₁ mean₂) where
     decided : first_lower S with₁ with₂ face ≡ t
     unfolding first_lower
@@ -92,7 +90,7 @@ module _ (frame : Frame) (surface : Surface) (options : Resolved) (period : Floa
   abbrev pub Between : Corners Vec3 → Corners Vec3 → ℕ → Corners Vec3 → Result Closed TooMany → Corners Vec3 → Type 0
   Between lower upper room old r now = ((sense : Bool) → r ≡ closing_of (On sense) lower upper room) × ((sense : Bool) → now ≡ closed_into (On sense) lower upper room old)
 
-  pub between : (p : Period) (t : Bool) (lower upper up : Corners Vec3) (room : ℕ) (old : Corners Vec3) (r : Result Closed TooMany) (now : Corners Vec3) → p ≡ v_period surface
+  pub between : (p : Option Float) (t : Bool) (lower upper up : Corners Vec3) (room : ℕ) (old : Corners Vec3) (r : Result Closed TooMany) (now : Corners Vec3) → p ≡ v_period surface
       → up ≡ map (move_v (lifted_by p t)) upper → Between lower up room old r now
       → ((sense : Bool) → r ≡ closing_of (On sense) lower (map (move_v (lifted_by (v_period surface) t)) upper) room)
       × (((sense : Bool) → now ≡ closed_into (On sense) lower (map (move_v (lifted_by (v_period surface) t)) upper) room old) × (up ≡ map (move_v (lifted_by (v_period surface) t)) upper))
@@ -110,7 +108,7 @@ module _ (frame : Frame) (surface : Surface) (options : Resolved) (period : Floa
         × (((sense : Bool) → first ≡ cond (first_lower (On sense) with₁ with₂ face) face.first (upper_of (On sense) with₁ with₂ face))
         × ((sense : Bool) → later ≡ cond (first_lower (On sense) with₁ with₂ face) (upper_of (On sense) with₁ with₂ face) face.later)))
 
-    module _ (p : Period) (mean₁ mean₂ : Float) (t crossed : Bool) (period_is : p ≡ v_period surface) (mean₁_is : mean₁ ≡ mean_v face.first)
+    module _ (p : Option Float) (mean₁ mean₂ : Float) (t crossed : Bool) (period_is : p ≡ v_period surface) (mean₁_is : mean₁ ≡ mean_v face.first)
         (mean₂_is : mean₂ ≡ mean_v face.later) (t_is : t ≡ first_is_lower p with₁ with₂ mean₁ mean₂) where
       pub ordered_first : t ≡ true → crossed ≡ crosses with₁ with₂ mean₁ mean₂
           → Between face.first (map (move_v (lifted_by (v_period surface) crossed)) face.later) room old r now

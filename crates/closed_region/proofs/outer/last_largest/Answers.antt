@@ -11,7 +11,7 @@ loop-i-init c = laws.largest _
 pub loop-i-preserved : goal.loop-i-preserved
 loop-i-preserved c = elim c.if-not-abs.branch [
   | then-not-abs w ↦ rw w.best-is (laws.largest_moves _ _ _ _ _ c.loop-i.invariant c.loop-i-test.true
-      c.abs.ensures c.abs-in-loop-i.ensures (not-true _ (ap not w.if-not-abs.true)))
+      c.abs.ensures.value c.abs-in-loop-i.ensures.value (not-true _ (ap not w.if-not-abs.true)))
   | else-not-abs w ↦ rw w.best-is (laws.largest_stays _ _ _ _ _ c.loop-i.invariant c.loop-i-test.true
-      c.abs.ensures c.abs-in-loop-i.ensures (not-false _ (ap not w.if-not-abs.false)))
+      c.abs.ensures.value c.abs-in-loop-i.ensures.value (not-false _ (ap not w.if-not-abs.false)))
 ]

@@ -5,6 +5,6 @@ pub returns-in-None : goal.returns-in-None
 unfolding wrap_of
 returns-in-None c = rw c.in-None.is
 
-pub returns-in-Every : goal.returns-in-Every
+pub returns-in-Some : goal.returns-in-Some
 unfolding wrap_of
-returns-in-Every c = rw (c.in-Every.is, c.wrap_end.ensures)
+returns-in-Some c = rw (c.in-Some.is, c.wrap_end.ensures)

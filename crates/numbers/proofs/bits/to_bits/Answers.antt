@@ -1,21 +1,12 @@
-use Rattle.std.proofs.Common.{◌≡◌, false, not, T, sym, refl, ap, ◌∙◌, subst}
-use lib.Ieee.{Float, nan, inf, fin, binary64, to_bits, is_nan, ne}
-use lib.Ieee.Compare.{differs_from_itself}
+use Rattle.std.proofs.Common.{◌≡◌, T, sym, refl, subst, ◌∙◌}
+use lib.Ieee.{Float, nan, inf, fin, binary64, to_bits, is_nan}
 use Rattle.numbers.proofs.bits.to_bits.Goals as goal
 
--- Where x differs from itself it is `nan`, and the literal is `to_bits` of it; elsewhere x is no NaN.
-no_nan : (x : Float) → ne x x ≡ false → T (not (is_nan x))
-unfolding ne is_nan
-no_nan nan e = subst T e tt
-no_nan (inf s) e = tt
-no_nan (fin s m e') e = tt
+nan-bits : (x : Float) → T (is_nan x) → 9221120237041090560 ≡ to_bits binary64 x
+unfolding is_nan to_bits
+nan-bits nan h = refl
+nan-bits (inf s) h = absurd h
+nan-bits (fin s m e) h = absurd h
 
-nan-bits : to_bits binary64 nan ≡ 9221120237041090560
-unfolding to_bits
-nan-bits = refl
-
-pub float_to_bits-result : goal.float_to_bits-result
-float_to_bits-result c = no_nan c.args.x c.if-x.false
-
-pub returns-then-x : goal.returns-then-x
-returns-then-x c = sym (ap (to_bits binary64) (differs_from_itself c.args.x (subst T (sym c.if-x.true) tt)) ∙ nan-bits)
+pub returns-then-is_nan : goal.returns-then-is_nan
+returns-then-is_nan c = nan-bits c.args.x (subst T (sym c.if-is_nan.true ∙ c.is_nan.ensures.value) tt)
