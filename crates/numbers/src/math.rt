@@ -19,7 +19,7 @@ pub struct Vec2 {
 
 // The layout is C's, as that of the tables of corners that hold positions.
 #[repr(C)]
-#[derive(Clone, Copy)]
+#[derive(Clone, Copy, PartialEq)]
 pub struct Vec3 {
     pub x: f64,
     pub y: f64,

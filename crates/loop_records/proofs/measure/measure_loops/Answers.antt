@@ -1,9 +1,7 @@
-use Prim.Native.Nat.{min}
-use mathlib.Core.Path.{ap, ◌∙◌}
-use native.Mathlib.Omega.{arith}
-use lib.ListN.{replicate}
+use Rattle.std.proofs.Common.{ap, sym, min, ◌∙◌, replicate, arith}
 use Rattle.lists.specs.Placed.{placed}
-use Rattle.tables.proofs.Rows.{length-rows}
+use Rattle.tables.proofs.Rows.{length-rows, rows_part}
+use Rattle.loop_records.specs.Loops.{record_of}
 use Rattle.loop_records.proofs.Recorded.{no_recording, recording, recording_turn, recording_end}
 use Rattle.loop_records.proofs.measure.measure_loops.Goals as goal
 
@@ -12,15 +10,16 @@ returns-then-counts-gt16 c =
     no_recording _ _ _ _ (omega (arith, c.if-counts-gt16.true)) ∙ ap (placed 0 _) (ap (replicate 16) c.no_loop-loops.ensures)
 
 pub loop-i-init : goal.loop-i-init
-loop-i-init c = (c.count-n.ensures.0, length-rows _, recording _ _ _ _ (omega (arith, c.if-counts-gt16.false)))
+loop-i-init c = (omega arith, recording _ _ _ _ (omega (arith, c.if-counts-gt16.false)))
 
 pub loop-i-preserved : goal.loop-i-preserved
-loop-i-preserved c = let inv = c.loop-i.invariant in (
-  inv.0,
-  inv.1,
-  recording_turn _ _ _ _ _ _ _ _ _ inv.2 c.loop-i-test.true (c.piece_end-to.ensures ∙ ap (min _) inv.0) c.measured_part.ensures,
+loop-i-preserved c = (
+  omega (arith, c.piece_end-to.ensures),
+  recording_turn _ _ _ _ _ _ _ _ _ c.loop-i.invariant.1 c.loop-i-test.true
+      (c.piece_end-to.ensures ∙ ap (min _) (sym (length-rows _)))
+      (c.measured.ensures ∙ ap (record_of c.args.period c.loop-i.from) (rows_part c.loop-i.from c.piece_end-to.result c.args.t.now)),
 )
 
 pub returns : goal.returns
 returns c =
-    recording_end _ _ _ _ _ _ _ c.loop-i.invariant.2 c.loop-i-test.false ∙ ap (placed 0 _) (ap (replicate 16) c.no_loop-loops.ensures)
+    recording_end _ _ _ _ _ _ _ c.loop-i.invariant.1 c.loop-i-test.false ∙ ap (placed 0 _) (ap (replicate 16) c.no_loop-loops.ensures)
