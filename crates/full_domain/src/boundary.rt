@@ -29,6 +29,7 @@ fn centre(range: Interval) -> f64
     0.5 * (range.lo + range.hi)
 }
 
+#[tactic(auto, unfolding(crate::specs::Boundary::wrap_of))]
 fn wrap(period: Option<f64>, range: Interval, t: f64) -> f64
     ensures { result ≡ wrap_of period range t }
 {

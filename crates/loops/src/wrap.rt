@@ -6,6 +6,7 @@ use numbers::rounding::round;
 use std::num::saturating_f64_to_i32;
 
 // Of `turns`, travel over period: the whole number that it is less than 0.15 off, unless that is 0.
+#[tactic(auto, using(numbers::proofs::order::Laws::size_is), unfolding(crate::specs::Wrap::turns_counted))]
 pub fn turns_counted(turns: f64) -> i32
     ensures { result ≡ turns_counted turns }
 {

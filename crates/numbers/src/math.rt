@@ -87,12 +87,14 @@ impl Vec3 {
     }
 
     // Whether the two are one position: equal as numbers, so that 0.0 and -0.0 are.
+    #[tactic(auto, unfolding(crate::specs::Position::same))]
     pub fn same(self, o: Vec3) -> bool
         ensures { result ≡ same self o }
     {
         self == o
     }
 
+    #[tactic(auto, unfolding(crate::specs::Vectors::length_of))]
     pub fn length(self) -> f64
         ensures { result ≡ length_of self }
     {
@@ -100,6 +102,7 @@ impl Vec3 {
     }
 
     // The vector times 1 / length, where the length is finite and above 2^-511.
+    #[tactic(auto, using(crate::proofs::order::Laws::finite_is), unfolding(crate::specs::Vectors::direction_of))]
     pub fn try_normalized(self) -> Option<Vec3>
         ensures { result ≡ direction_of self }
     {
@@ -111,6 +114,7 @@ impl Vec3 {
         }
     }
 
+    #[tactic(auto, unfolding(crate::specs::Vectors::normalized_or))]
     pub fn normalized_or(self, fallback: Vec3) -> Vec3
         ensures { result ≡ normalized_or self fallback }
     {
@@ -118,12 +122,14 @@ impl Vec3 {
     }
 
     // The unit axis that self is least along.
+    #[tactic(auto, using(crate::proofs::order::Laws::size_is), unfolding(crate::specs::Vectors::least_axis))]
     fn least_axis(self) -> Vec3
         ensures { result ≡ least_axis self }
     {
         least_of(self.x.abs(), self.y.abs(), self.z.abs())
     }
 
+    #[tactic(auto, unfolding(crate::specs::Vectors::perpendicular_of))]
     pub fn any_perpendicular(self) -> Vec3
         ensures { result ≡ perpendicular_of self }
     {
@@ -170,6 +176,7 @@ fn lesser_of(y: f64, z: f64) -> Vec3
 
 impl Frame {
     // The axis and the reference direction made perpendicular and of length one.
+    #[tactic(auto, unfolding(crate::specs::Frames::frame_of))]
     pub fn new(origin: Vec3, axis: Vec3, reference: Vec3) -> Frame
         ensures { result ≡ frame_of origin axis reference }
     {
@@ -195,6 +202,7 @@ impl Frame {
     }
 
     // The point at the angle theta and the distance r from the axis.
+    #[tactic(auto, unfolding(crate::specs::Frames::polar_of))]
     pub fn polar(self, r: f64, theta: f64) -> Vec3
         ensures { result ≡ polar_of self r theta }
     {

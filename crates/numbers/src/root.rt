@@ -74,6 +74,7 @@ fn even(m: u64, h: u64) -> f64
 }
 
 // The root of m * 2^k units of 2^-1074.
+#[tactic(auto, using(crate::proofs::root::Laws::at_even, crate::proofs::root::Laws::at_odd))]
 fn rooted(m: u64, k: u64) -> f64
     requires { (0 < m) × (m < 2 ^ 53) × (k ≤ 2045) }
     ensures { result ≡ root_float (m * 2 ^ k * 2 ^ 1074) }
@@ -100,6 +101,7 @@ fn positive(x: f64) -> f64
     }
 }
 
+#[tactic(auto, using(crate::proofs::root::Laws::below_endless, crate::proofs::root::Laws::endless, crate::proofs::root::Laws::under, crate::proofs::root::Laws::still, crate::proofs::Reals::above))]
 pub fn sqrt(x: f64) -> f64
     ensures { result ≡ sqrt_of x }
 {

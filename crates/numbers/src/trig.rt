@@ -71,6 +71,7 @@ fn quarter(q: f64) -> u64
     }
 }
 
+#[tactic(auto, unfolding(crate::specs::Trig::reduced_of))]
 fn reduced(q: f64, r: f64) -> SinCos
     ensures { result ≡ reduced_of q r }
 {
@@ -85,6 +86,7 @@ fn reduced(q: f64, r: f64) -> SinCos
     }
 }
 
+#[tactic(auto, unfolding(crate::specs::Trig::sincos_of, crate::specs::Trig::sincos_in))]
 pub fn sin_cos(t: f64) -> SinCos
     ensures { result ≡ sincos_of t }
 {
@@ -104,6 +106,7 @@ pub fn cos(t: f64) -> f64
     a.cos
 }
 
+#[tactic(auto, unfolding(crate::specs::Trig::tan_of))]
 pub fn tan(t: f64) -> f64
     ensures { result ≡ tan_of t }
 {

@@ -1,4 +1,3 @@
-pub mod Laws
 pub mod Walk
 pub mod Inner
 pub mod Kept

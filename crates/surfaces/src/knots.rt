@@ -5,6 +5,7 @@ ghost use Rattle.std.proofs.lemmas.List.Edits.{sets};
 ghost use Rattle.surfaces.specs.Rungs.{division, slack_of, near, kept_divisions, rungs, EndsOn, EndWritten, inner, placed};
 
 // The division i of n even ones from lo to hi.
+#[tactic(auto, unfolding(crate::specs::Rungs::division))]
 pub fn division(lo: f64, hi: f64, n: usize, i: usize) -> f64
     ensures { result ≡ division lo hi n i }
 {
@@ -12,6 +13,7 @@ pub fn division(lo: f64, hi: f64, n: usize, i: usize) -> f64
     lo + (hi - lo) * std::num::nearest_u64_to_f64(i as u64) / std::num::nearest_u64_to_f64(all)
 }
 
+#[tactic(auto, using(numbers::proofs::order::Laws::size_is), unfolding(crate::specs::Rungs::slack_of))]
 fn slack(lo: f64, hi: f64) -> f64
     ensures { result ≡ slack_of lo hi }
 {
@@ -19,6 +21,7 @@ fn slack(lo: f64, hi: f64) -> f64
 }
 
 // Whether x is too near the rung kept before it.
+#[tactic(auto, using(numbers::proofs::order::Laws::size_is), unfolding(crate::specs::Rungs::near))]
 fn near(slack: f64, x: f64, last: f64) -> bool
     ensures { result ≡ near slack x last }
 {
@@ -44,6 +47,7 @@ pub fn merge_even_steps(lo: f64, hi: f64, n: usize) -> usize
 }
 
 // A store at k - from, where there is such a place.
+#[tactic(auto, unfolding(crate::specs::Rungs::placed))]
 fn put(s: &mut [f64], from: usize, k: usize, x: f64)
     ensures { s.new ≡ placed from k x s.old }
 {

@@ -18,6 +18,7 @@ pub struct Resolved {
 impl Resolved {
     // The step that the sag allows on a circle of radius r. Where the whole circle is within the sag
     // only the angular limit is left.
+    #[tactic(auto, unfolding(crate::specs::Segments::sag_angle))]
     fn sag_angle(self, r: f64) -> f64
         ensures { result ≡ sag_angle self r }
     {
@@ -29,6 +30,7 @@ impl Resolved {
     }
 
     // The angular step on a circle of radius r that honours both limits.
+    #[tactic(auto, using(numbers::proofs::order::Laws::size_is), unfolding(crate::specs::Segments::angle_step_of))]
     pub fn angle_step_for_radius(self, r: f64) -> f64
         ensures { result ≡ angle_step_of self r }
     {
@@ -36,6 +38,7 @@ impl Resolved {
     }
 
     // Segments that sweep `total` radians on the radius r.
+    #[tactic(auto, using(numbers::proofs::order::Laws::size_is), unfolding(crate::specs::Segments::segments_of))]
     pub fn segments_for_arc(self, r: f64, total: f64) -> usize
         ensures { result ≡ segments_of self r total }
     {

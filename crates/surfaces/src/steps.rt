@@ -28,6 +28,7 @@ pub fn v_steps(surface: Surface, from: f64, to: f64, options: Resolved) -> usize
 }
 
 // Steps of a whole surface in one direction from lo to hi, where the other parameter is `other`.
+#[tactic(auto, unfolding(crate::specs::Steps::direction_steps_of))]
 pub fn direction_steps(
     surface: Surface,
     axis: Axis,

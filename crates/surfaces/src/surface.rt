@@ -96,6 +96,7 @@ impl Surface {
         }
     }
 
+    #[tactic(auto, unfolding(crate::specs::Domains::domain_of))]
     pub fn domain(self) -> Domain
         ensures { result ≡ domain_of self }
     {
@@ -108,6 +109,7 @@ impl Surface {
     }
 
     // The point at the parameters uv.
+    #[tactic(auto, unfolding(crate::specs::Points::point_of))]
     pub fn point_at(self, frame: Frame, uv: Vec2) -> Vec3
         ensures { result ≡ point_of frame self uv.u uv.v }
     {
@@ -146,6 +148,7 @@ fn full_turn() -> Interval
 
 // A cone ends at its apex, where the radius has come to zero, unless its sides are as good as
 // parallel.
+#[tactic(auto, using(numbers::proofs::order::Laws::size_is), unfolding(crate::specs::Domains::cone_range))]
 fn cone_range(radius: f64, tan: f64) -> Interval
     ensures { result ≡ cone_range radius tan }
 {
@@ -165,6 +168,7 @@ fn cone_range(radius: f64, tan: f64) -> Interval
     unbounded()
 }
 
+#[tactic(auto, unfolding(crate::specs::Points::plane_of))]
 fn plane_at(frame: Frame, u: f64, v: f64) -> Vec3
     ensures { result ≡ plane_of frame u v }
 {
@@ -175,6 +179,7 @@ fn plane_at(frame: Frame, u: f64, v: f64) -> Vec3
 }
 
 // The point at the angle u and the distance r from the axis, and h along the axis.
+#[tactic(auto, unfolding(crate::specs::Points::raised_of))]
 fn raised(frame: Frame, r: f64, u: f64, h: f64) -> Vec3
     ensures { result ≡ raised_of frame r u h }
 {
@@ -182,6 +187,7 @@ fn raised(frame: Frame, r: f64, u: f64, h: f64) -> Vec3
     frame.polar(r, u).plus(z.times(h))
 }
 
+#[tactic(auto, unfolding(crate::specs::Points::sphere_of))]
 fn sphere_at(frame: Frame, radius: f64, u: f64, v: f64) -> Vec3
     ensures { result ≡ sphere_of frame radius u v }
 {
@@ -189,6 +195,7 @@ fn sphere_at(frame: Frame, radius: f64, u: f64, v: f64) -> Vec3
     raised(frame, radius * a.cos, u, radius * a.sin)
 }
 
+#[tactic(auto, unfolding(crate::specs::Points::torus_of))]
 fn torus_at(frame: Frame, major: f64, minor: f64, u: f64, v: f64) -> Vec3
     ensures { result ≡ torus_of frame major minor u v }
 {

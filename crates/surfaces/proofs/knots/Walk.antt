@@ -1,9 +1,8 @@
 -- The two loops over the divisions, on plain values: one counts the rungs, one writes them.
 use Rattle.std.proofs.Common.{◌≡◌, ℕ, suc, ◌+◌, ◌-◌, ◌<◌, ◌≤◌, max, Bool, true, false, cond, leb, List, [], ◌∷◌, ◌++◌, length, drop, set, sym, refl, ap, ◌∙◌, add-one, arith, length-set, set-set, le-leb, leb-false, leb-true}
 use mathlib.Core.List.{drop_last}
-use lib.Seq.{sets, drop-nil, set_out}
+use lib.Seq.{sets, drop-nil}
 use lib.Ieee.{Float, ne}
-use borrow.Author.Tests.{lt-leb}
 use Rattle.surfaces.specs.Rungs.{division, divisions_from, slack_of, near, kept_after, kept_divisions, ended_on, rungs, EndsOn, EndWritten, placed}
 use Rattle.surfaces.proofs.knots.Ended.{ended_is, ended_length}
 use Rattle.surfaces.proofs.knots.Kept.{kept_step}
@@ -26,13 +25,6 @@ module _ (from k : ℕ) (x : Float) (os : List Float) where
   pub place_in : from ≤ k → set os (k - from) x ≡ placed from k x os
   unfolding placed
   place_in h = rw (le-leb from k h)
-
-  pub place-past : from ≤ k → length os ≤ k - from → os ≡ placed from k x os
-  place-past h l = sym (set_out os (k - from) x l) ∙ place_in h
-
-  pub place_before : k < from → os ≡ placed from k x os
-  unfolding placed
-  place_before h = rw (lt-leb from k h)
 
 writes_is : (from k : ℕ) (xs os : List Float) → writes from k xs os ≡ sets os (k - from) (drop (from - k) xs)
 unfolding writes placed
