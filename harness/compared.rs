@@ -276,26 +276,37 @@ pub fn inner_into(lo: f64, hi: f64, n: usize, out: &mut [f64]) -> usize {
     unsafe { compared_inner_into(lo, hi, n, out.as_mut_ptr(), out.len()) }
 }
 
+// A table of corners crosses with the number of its rows, five reals to a row, and a table of boxes with
+// the number of its boxes, four reals to a box.
+
+fn row_count(corners: &[f64]) -> usize {
+    corners.len() / 5
+}
+
+fn box_count(boxes: &[f64]) -> usize {
+    boxes.len() / 4
+}
+
 pub fn net_wrap(corners: &[f64], period: f64) -> i32 {
-    unsafe { compared_net_wrap(corners.as_ptr(), corners.len(), period) }
+    unsafe { compared_net_wrap(corners.as_ptr(), row_count(corners), period) }
 }
 
 pub fn signed_area(corners: &[f64]) -> f64 {
-    unsafe { compared_signed_area(corners.as_ptr(), corners.len()) }
+    unsafe { compared_signed_area(corners.as_ptr(), row_count(corners)) }
 }
 
 pub fn mean_v(corners: &[f64]) -> f64 {
-    unsafe { compared_mean_v(corners.as_ptr(), corners.len()) }
+    unsafe { compared_mean_v(corners.as_ptr(), row_count(corners)) }
 }
 
 /// The least u of a loop's corners.
 pub fn least(corners: &[f64]) -> f64 {
-    unsafe { compared_least(corners.as_ptr(), corners.len()) }
+    unsafe { compared_least(corners.as_ptr(), row_count(corners)) }
 }
 
 /// The greatest.
 pub fn greatest(corners: &[f64]) -> f64 {
-    unsafe { compared_greatest(corners.as_ptr(), corners.len()) }
+    unsafe { compared_greatest(corners.as_ptr(), row_count(corners)) }
 }
 
 /// Writes the boundary of a whole surface to the first rows, and answers its area.
@@ -307,7 +318,7 @@ pub fn full_domain_loop(
 ) -> f64 {
     let [a, b] = surface.sizes;
     let Tolerances { sag, angle, segments } = *tolerances;
-    let (t, t_len) = (corners.as_mut_ptr(), corners.len());
+    let (t, t_len) = (corners.as_mut_ptr(), row_count(corners));
     unsafe { compared_full_domain_loop(surface.kind, a, b, frame, sag, angle, segments, t, t_len) }
 }
 
@@ -384,20 +395,20 @@ pub fn closed_region(table: &Table) -> usize {
     unsafe {
         compared_closed_region(
             corners.as_ptr(),
-            corners.len(),
+            row_count(corners),
             counts.as_ptr(),
             counts.len(),
             areas.as_ptr(),
             areas.len(),
             boxes.as_mut_ptr(),
-            boxes.len(),
+            box_count(&boxes),
         )
     }
 }
 
 /// The number of the outer loop, by the ends of the boxes, four to a box, and the areas.
 pub fn outer_loop(boxes: &[f64], areas: &[f64]) -> usize {
-    unsafe { compared_outer_loop(boxes.as_ptr(), boxes.len(), areas.as_ptr(), areas.len()) }
+    unsafe { compared_outer_loop(boxes.as_ptr(), box_count(boxes), areas.as_ptr(), areas.len()) }
 }
 
 /// Moves all loops but the outer one. The period of an open direction is 0.
@@ -406,7 +417,7 @@ pub fn rephase_holes(table: &mut Table, outer: usize, [uperiod, vperiod]: [f64; 
     unsafe {
         compared_rephase_holes(
             corners.as_mut_ptr(),
-            corners.len(),
+            row_count(corners),
             counts.as_ptr(),
             counts.len(),
             areas.as_mut_ptr(),

@@ -6,7 +6,7 @@ use native.Mathlib.Omega.{arith}
 use lib.ListN.{length, get_or, set, take, drop}
 use Rattle.numbers.specs.Order.{min_of, max_of}
 use Rattle.numbers.specs.declared.math.Vec3.{Vec3}
-use Rattle.lists.proofs.Folds.{Folding, folding, folding_turn, folding_end}
+use Rattle.lists.proofs.Folds.{Folding, folding_turn, folding_end}
 use Rattle.lists.specs.Pieces.{pieces}
 use Rattle.lists.specs.Placed.{placed}
 use Rattle.loops.specs.Span.{least_of, greatest_of}
@@ -33,9 +33,6 @@ grown_all (c ∷ r) b = grown_all r (grown b c)
 module _ (t : List Held) where
   abbrev pub Growing : Bounds → ℕ → Type 0
   Growing b i = Folding grown empty_box (rows t) b i
-
-  pub growing : (b : Bounds) → b ≡ empty_box → Growing b 0
-  growing b e = rw e (folding grown empty_box (rows t))
 
   pub growing_turn : (b b' : Bounds) (i : ℕ) → Growing b i → i < length t
       → b' ≡ hull_of b (record { ulo = (get_or t i absent).u; uhi = (get_or t i absent).u; vlo = (get_or t i absent).v; vhi = (get_or t i absent).v }) → Growing b' (i + 1)

@@ -4,6 +4,7 @@ use mathlib.Core.Path.{◌≡◌, refl, sym, ap, ◌∙◌, subst}
 use mathlib.Core.Bool.{Bool, true, false, cond, ◌&&◌, true≢false}
 use mathlib.Core.List.{List, [], ◌∷◌, ◌++◌, map, flatten, append_assoc, append-nil}
 use native.Mathlib.Numerals.{add-one}
+use Rattle.std.proofs.lemmas.List.{set-get_or}
 use native.Mathlib.Omega.{arith}
 use borrow.Author.Tests.{eq-eqb, ne_eqb, lt-ltb, le-ltb, le-leb, lt-leb}
 use lib.Dec.{eqb, ltb}
@@ -96,11 +97,6 @@ on_same f a e xs same =
     sym (ap (λ (l : List _). take a xs ++ (l ++ drop (e - a) (drop a xs))) (same (take (e - a) (drop a xs)))
     ∙ ap (λ (l : List _). take a xs ++ l) (take-append-drop (e - a) (drop a xs)) ∙ take-append-drop a xs)
 
-set_own : {A : Type 0} (xs : List A) (i : ℕ) (z : A) → xs ≡ set xs i (get_or xs i z)
-set_own [] i z = refl
-set_own (x ∷ xs) zero z = refl
-set_own (x ∷ xs) (suc i) z = ap (λ (l : List _). x ∷ l) (set_own xs i z)
-
 module _ (outer k : ℕ) (b : Branch) (r : Corners Vec3) (areas : List Float) (from to : ℕ) where
   abbrev part : Corners Vec3
   part = take (to - from) (drop from r)
@@ -108,7 +104,7 @@ module _ (outer k : ℕ) (b : Branch) (r : Corners Vec3) (areas : List Float) (f
   pub loop_stays : k ≡ outer → (r ≡ on_part (loop_then outer b k) from to r) × (areas ≡ set areas k (area_then outer b k part (get_or areas k nan)))
   loop_stays e =
       let t = eq-eqb k outer e in
-      (on_same (loop_then outer b k) from to r (λ l. rw t), rw t (set_own areas k nan))
+      (on_same (loop_then outer b k) from to r (λ l. rw t), rw t (sym (set-get_or areas k nan)))
 
   pub loop_moves : (k ≡ outer → ⊥) → (old x : Float) (r' : Corners Vec3) (areas' : List Float) → old ≡ get_or areas k nan
       → (x ≡ rephased_area b part old) × (r' ≡ on_part (rephased_corners b) from to r) → areas' ≡ set areas k x

@@ -5,36 +5,38 @@ ghost use Rattle.lists.specs.Placed.{placed};
 ghost use Rattle.surfaces.specs.Domains.{period_length};
 ghost use Rattle.tables.specs.Rows.{rows};
 ghost use Rattle.closed_region.specs.Holes.{rephased_rows, rephased_areas};
-ghost use Rattle.closed_region.specs.Loops.{box_in, boxes_in};
+ghost use Rattle.closed_region.specs.Loops.{box_in};
 ghost use Rattle.closed_region.specs.Outer.{outer_of};
 ghost use Rattle.closed_region.specs.Region.{outer_among};
 ghost use Rattle.compared.specs.Surfaces.{period_of};
 
 use super::of_surfaces::period_of;
+use closed_region::boxes::Bounds;
+use tables::corners::Corner;
 
 #[unsafe(no_mangle)]
 pub extern "C" fn compared_closed_region(
-    t: &[f64],
+    t: &[Corner],
     counts: &[usize],
     areas: &[f64],
-    boxes: &mut [f64],
+    boxes: &mut [Bounds],
 ) -> usize
-    ensures value { result ≡ outer_among (pieces counts.now (rows t.now)) areas.now (length (boxes_in boxes.old)) }
-    ensures boxes_after { boxes_in boxes.new ≡ placed 0 (map box_in (pieces counts.now (rows t.now))) (boxes_in boxes.old) }
+    ensures value { result ≡ outer_among (pieces counts.now (rows t.now)) areas.now (length boxes.old) }
+    ensures boxes_after { boxes.new ≡ placed 0 (map box_in (pieces counts.now (rows t.now))) boxes.old }
 {
     closed_region::region::closed_region(t, counts, areas, boxes)
 }
 
 #[unsafe(no_mangle)]
-pub extern "C" fn compared_outer_loop(boxes: &[f64], areas: &[f64]) -> usize
-    ensures { result ≡ outer_of (boxes_in boxes.now) areas.now }
+pub extern "C" fn compared_outer_loop(boxes: &[Bounds], areas: &[f64]) -> usize
+    ensures { result ≡ outer_of boxes.now areas.now }
 {
     closed_region::enclosing::outer_loop(boxes, areas)
 }
 
 #[unsafe(no_mangle)]
 pub extern "C" fn compared_rephase_holes(
-    t: &mut [f64],
+    t: &mut [Corner],
     counts: &[usize],
     areas: &mut [f64],
     outer: usize,

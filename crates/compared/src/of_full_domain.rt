@@ -10,6 +10,7 @@ ghost use Rattle.compared.specs.Surfaces.{surface_of, resolved_of};
 use super::of_numbers::{Placement, frame_of};
 use super::of_surfaces::surface_of;
 use surfaces::options::Resolved;
+use tables::corners::Corner;
 
 #[unsafe(no_mangle)]
 pub extern "C" fn compared_full_domain_count(
@@ -40,7 +41,7 @@ pub extern "C" fn compared_full_domain_loop(
     sag: f64,
     angle: f64,
     segments: usize,
-    t: &mut [f64],
+    t: &mut [Corner],
 ) -> f64
     ensures value { result ≡ area_within (length (rows t.old)) (surface_of kind a b) (resolved_of sag angle segments) }
     ensures t_after { rows t.new ≡ placed 0 (whole_rows (surface_of kind a b) (frame_of frame) (resolved_of sag angle segments)) (rows t.old) }

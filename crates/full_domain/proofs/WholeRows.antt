@@ -63,9 +63,6 @@ module _ (s : Surface) (f : Frame) (a : Axis) (fixed : Float) (back : Bool) (rs 
     pub far : i ≤ length rs - 1
     pub is : rows t ≡ sets (rows t₀) start (take i along)
 
-  pub putting : Putting t₀ 0
-  putting = record { far = omega arith; is = refl }
-
   pub putting_turn : (t t' : List Held) (i : ℕ) (c : Corner Vec3) (x : Float) → Putting t i → i + 1 < length rs → x ≡ get_or (walked back rs) i nan
       → c ≡ placed_corner s f (corner_along a fixed x) → rows t' ≡ set (rows t) (start + i) c → Putting t' (i + 1)
   putting_turn t t' i c x k h x_is c_is e = record {

@@ -15,7 +15,7 @@ use Rattle.std.specs.Float.{float_with_sign}
 use Rattle.numbers.specs.Order.{max_of}
 use Rattle.numbers.proofs.order.Laws.{size_is}
 use Rattle.numbers.specs.Rounded.{◌⊗◌}
-use Rattle.lists.proofs.Folds.{Folding, folding, folding_turn, folding_end}
+use Rattle.lists.proofs.Folds.{Folding, folding_turn, folding_end}
 use Rattle.closed_region.specs.declared.boxes.Bounds.{Bounds}
 use Rattle.closed_region.specs.declared.outer.Outermost.{Outermost}
 use Rattle.closed_region.specs.Outer.{side_of, slack_of, nowhere, box_at, passing, the_one, last_largest}
@@ -29,9 +29,6 @@ module _ (boxes : List Bounds) where
   pub record Sides (largest : Float) (i : ℕ) : Type 0 where
     pub fold : Folding larger plus_zero boxes largest i
     pub fit : (j : ℕ) → j < i → Fits (box_at boxes j)
-
-  pub sides : Sides plus_zero 0
-  sides = record { fold = folding larger plus_zero boxes; fit = λ j h. absurd (omega arith) }
 
   pub sides_turn : (largest x y : Float) (i : ℕ) → Sides largest i → i < length boxes → x ≡ side_of (box_at boxes i) → Fits (box_at boxes i) → y ≡ max_of largest x → Sides y (i + 1)
   sides_turn largest x y i k h e f q = record {
