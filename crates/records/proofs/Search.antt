@@ -6,8 +6,7 @@ use Prim.Native.Nat.{ℕ, zero, suc, ◌+◌, ◌-◌, ◌≤◌, ◌<◌}
 use native.Mathlib.Nat.{eq-or-lt_of_le}
 use native.Mathlib.Numerals.{add-one}
 use native.Mathlib.Omega.{arith}
-use Rattle.records.specs.declared.check.Place.{Place as Found}
-use Rattle.records.specs.declared.check.Place.TheVariants.{Nowhere, At}
+use Rattle.std.specs.Prelude.{Option, Some, None}
 use Rattle.records.specs.Answers.{place_of}
 use Rattle.records.specs.Refusals.{Place, nowhere, at, when, first_from, first_where}
 
@@ -178,8 +177,8 @@ module _ {test : ℕ → Bool} {n : ℕ} where
 
 -- ---- an answer of the code, where a match has told which it is
 
-pub not_found : {r : Found} {p : Place} → place_of r ≡ p → r ≡ Nowhere → p ≡ nowhere
+pub not_found : {r : Option ℕ} {p : Place} → place_of r ≡ p → r ≡ None → p ≡ nowhere
 not_found e f = sym e ∙ ap place_of f
 
-pub found : {r : Found} {p : Place} {k : ℕ} → place_of r ≡ p → r ≡ At k → p ≡ at k
+pub found : {r : Option ℕ} {p : Place} {k : ℕ} → place_of r ≡ p → r ≡ Some k → p ≡ at k
 found e f = sym e ∙ ap place_of f

@@ -11,6 +11,7 @@ use numbers::bits::Real;
 pub mod check;
 pub mod limits;
 pub mod read;
+pub mod refusal;
 
 // The sizes of a face record's parts, and how few points a loop may have.
 const HEADER_SIZE: usize = 5;

@@ -1,5 +1,6 @@
-// Reading a face record into lent slices, its corners into a table. Nothing is checked here but that the record is long
-// enough for what its counts say and that the slices have room: where not, nothing is written.
+// Reading a face record into lent slices, its corners into a table; each function answers how many values it read. Nothing
+// is checked here but that the record is long enough for what its counts say and that the slices have room: where not,
+// nothing is written, and there is no number.
 ghost use Rattle.std.specs.Prelude.{◌≡◌, ◌+◌, ◌*◌, ◌≤◌, length, get_or};
 ghost use Rattle.records.specs.Bytes.{real_at, row_at};
 ghost use Rattle.tables.specs.Rows.{rows, corner_of};
@@ -9,13 +10,6 @@ ghost use Rattle.records.specs.Lent.{front, counts_there, CountsRead, HeadRead, 
 use super::{HEAD_REALS, HEADER_SIZE, count_at, loops, points, real_at};
 use numbers::math::Vec3;
 use tables::corners::{Corner, count, put_corner};
-
-// How many values were read, or that something lent was too short.
-#[derive(Clone, Copy)]
-pub enum Read {
-    Count(usize),
-    Refused,
-}
 
 // The byte at i, 0 past the end.
 fn byte_at(s: &[u8], i: usize) -> u8
@@ -52,22 +46,22 @@ fn counts_there(face: &[u8]) -> bool
 }
 
 // The points of each loop.
-pub fn read_counts(face: &[u8], dst: &mut [usize]) -> Read
+pub fn read_counts(face: &[u8], dst: &mut [usize]) -> Option<usize>
     ensures { CountsRead face.now dst.old dst.new result }
 {
     if !counts_there(face) {
-        return Read::Refused;
+        return None;
     }
     let l = loops(face);
     if dst.len() < l {
-        return Read::Refused;
+        return None;
     }
     let mut k = 0;
     while k < l {
         dst[k] = count_at(face, k);
         k += 1;
     }
-    Read::Count(l)
+    Some(l)
 }
 
 // The n reals that stand w bytes apart, the first `off` bytes behind `base`.
@@ -85,21 +79,21 @@ fn read_column(face: &[u8], base: usize, off: usize, w: usize, n: usize, dst: &m
 }
 
 // The 13 reals before the points.
-pub fn read_head(face: &[u8], dst: &mut [f64]) -> Read
+pub fn read_head(face: &[u8], dst: &mut [f64]) -> Option<usize>
     ensures { HeadRead face.now dst.old dst.new result }
 {
     if !counts_there(face) {
-        return Read::Refused;
+        return None;
     }
     let at = HEADER_SIZE + 2 * loops(face);
     if face.len() < at + 8 * HEAD_REALS {
-        return Read::Refused;
+        return None;
     }
     if dst.len() < HEAD_REALS {
-        return Read::Refused;
+        return None;
     }
     read_column(face, at, 0, 8, HEAD_REALS, dst);
-    Read::Count(HEAD_REALS)
+    Some(HEAD_REALS)
 }
 
 // The corner whose parameters stand at p and whose position stands at q.
@@ -133,19 +127,19 @@ fn fill_corners(face: &[u8], n: usize, t: &mut [f64])
 }
 
 // The corners of all loops in file order, a row each.
-pub fn read_corners(face: &[u8], t: &mut [f64]) -> Read
+pub fn read_corners(face: &[u8], t: &mut [f64]) -> Option<usize>
     ensures { CornersRead face.now t.old t.new result }
 {
     if !counts_there(face) {
-        return Read::Refused;
+        return None;
     }
     let n = points(face);
     if face.len() < HEADER_SIZE + 2 * loops(face) + 8 * (HEAD_REALS + 5 * n) {
-        return Read::Refused;
+        return None;
     }
     if count(t) < n {
-        return Read::Refused;
+        return None;
     }
     fill_corners(face, n, t);
-    Read::Count(n)
+    Some(n)
 }

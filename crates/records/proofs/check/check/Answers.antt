@@ -58,86 +58,86 @@ past-6 c = not_found c.wrong_length.ensures c.in_default-wrong_length.is
 past-7 : (c : In_default-first_bad_real) → first_bad_real (face-7 c) ≡ nowhere
 past-7 c = not_found c.first_bad_real.ensures c.in_default-first_bad_real.is
 
-pub returns-in-At : goal.returns-in-At
+pub returns-in-Some : goal.returns-in-Some
 unfolding verdict
-returns-in-At c = rw (found c.wrong_header.ensures c.in-At.is)
+returns-in-Some c = rw (found c.wrong_header.ensures c.in-Some.is)
 
 pub too_many_loops-requires : goal.too_many_loops-requires
 too_many_loops-requires c = counting.header_there _ (past-1 (goal.at.too_many_loops-requires c).In_default)
 
-pub returns-in-At-too_many_loops : goal.returns-in-At-too_many_loops
+pub returns-in-Some-too_many_loops : goal.returns-in-Some-too_many_loops
 unfolding verdict
-returns-in-At-too_many_loops c =
-    rw (past-1 (goal.at.returns-in-At-too_many_loops c).In_default, found c.too_many_loops.ensures c.in-At-too_many_loops.is)
+returns-in-Some-too_many_loops c =
+    rw (past-1 (goal.at.returns-in-Some-too_many_loops c).In_default, found c.too_many_loops.ensures c.in-Some-too_many_loops.is)
 
 pub ends_in_counts-requires : goal.ends_in_counts-requires
 ends_in_counts-requires c = counting.header_there _ (past-1 (goal.at.ends_in_counts-requires c).In_default)
 
-pub returns-in-At-ends_in_counts : goal.returns-in-At-ends_in_counts
+pub returns-in-Some-ends_in_counts : goal.returns-in-Some-ends_in_counts
 unfolding verdict
-returns-in-At-ends_in_counts c =
+returns-in-Some-ends_in_counts c =
     rw (
-      past-1 (goal.at.returns-in-At-ends_in_counts c).In_default,
-      past-2 (goal.at.returns-in-At-ends_in_counts c).In_default-too_many_loops,
-      found c.ends_in_counts.ensures c.in-At-ends_in_counts.is,
+      past-1 (goal.at.returns-in-Some-ends_in_counts c).In_default,
+      past-2 (goal.at.returns-in-Some-ends_in_counts c).In_default-too_many_loops,
+      found c.ends_in_counts.ensures c.in-Some-ends_in_counts.is,
     )
 
 pub too_few_points-requires : goal.too_few_points-requires
 too_few_points-requires c = counting.counts_there_lem _ (past-3 (goal.at.too_few_points-requires c).In_default-ends_in_counts)
 
-pub returns-in-At-too_few_points : goal.returns-in-At-too_few_points
+pub returns-in-Some-too_few_points : goal.returns-in-Some-too_few_points
 unfolding verdict
-returns-in-At-too_few_points c =
+returns-in-Some-too_few_points c =
     rw (
-      past-1 (goal.at.returns-in-At-too_few_points c).In_default,
-      past-2 (goal.at.returns-in-At-too_few_points c).In_default-too_many_loops,
-      past-3 (goal.at.returns-in-At-too_few_points c).In_default-ends_in_counts,
-      found c.too_few_points.ensures c.in-At-too_few_points.is,
+      past-1 (goal.at.returns-in-Some-too_few_points c).In_default,
+      past-2 (goal.at.returns-in-Some-too_few_points c).In_default-too_many_loops,
+      past-3 (goal.at.returns-in-Some-too_few_points c).In_default-ends_in_counts,
+      found c.too_few_points.ensures c.in-Some-too_few_points.is,
     )
 
 pub too_many_points-requires : goal.too_many_points-requires
 too_many_points-requires c = counting.counts_there_lem _ (past-3 (goal.at.too_many_points-requires c).In_default-ends_in_counts)
 
-pub returns-in-At-too_many_points : goal.returns-in-At-too_many_points
+pub returns-in-Some-too_many_points : goal.returns-in-Some-too_many_points
 unfolding verdict
-returns-in-At-too_many_points c =
+returns-in-Some-too_many_points c =
     rw (
-      past-1 (goal.at.returns-in-At-too_many_points c).In_default,
-      past-2 (goal.at.returns-in-At-too_many_points c).In_default-too_many_loops,
-      past-3 (goal.at.returns-in-At-too_many_points c).In_default-ends_in_counts,
-      past-4 (goal.at.returns-in-At-too_many_points c).In_default-too_few_points,
-      found c.too_many_points.ensures c.in-At-too_many_points.is,
+      past-1 (goal.at.returns-in-Some-too_many_points c).In_default,
+      past-2 (goal.at.returns-in-Some-too_many_points c).In_default-too_many_loops,
+      past-3 (goal.at.returns-in-Some-too_many_points c).In_default-ends_in_counts,
+      past-4 (goal.at.returns-in-Some-too_many_points c).In_default-too_few_points,
+      found c.too_many_points.ensures c.in-Some-too_many_points.is,
     )
 
 pub wrong_length-requires : goal.wrong_length-requires
 wrong_length-requires c = counting.counts_there_lem _ (past-3 (goal.at.wrong_length-requires c).In_default-ends_in_counts)
 
-pub returns-in-At-wrong_length : goal.returns-in-At-wrong_length
+pub returns-in-Some-wrong_length : goal.returns-in-Some-wrong_length
 unfolding verdict
-returns-in-At-wrong_length c =
+returns-in-Some-wrong_length c =
     rw (
-      past-1 (goal.at.returns-in-At-wrong_length c).In_default,
-      past-2 (goal.at.returns-in-At-wrong_length c).In_default-too_many_loops,
-      past-3 (goal.at.returns-in-At-wrong_length c).In_default-ends_in_counts,
-      past-4 (goal.at.returns-in-At-wrong_length c).In_default-too_few_points,
-      past-5 (goal.at.returns-in-At-wrong_length c).In_default-too_many_points,
-      found c.wrong_length.ensures c.in-At-wrong_length.is,
+      past-1 (goal.at.returns-in-Some-wrong_length c).In_default,
+      past-2 (goal.at.returns-in-Some-wrong_length c).In_default-too_many_loops,
+      past-3 (goal.at.returns-in-Some-wrong_length c).In_default-ends_in_counts,
+      past-4 (goal.at.returns-in-Some-wrong_length c).In_default-too_few_points,
+      past-5 (goal.at.returns-in-Some-wrong_length c).In_default-too_many_points,
+      found c.wrong_length.ensures c.in-Some-wrong_length.is,
     )
 
 pub first_bad_real-requires : goal.first_bad_real-requires
 first_bad_real-requires c = counting.all_there _ (past-6 (goal.at.first_bad_real-requires c).In_default-wrong_length)
 
-pub returns-in-At-first_bad_real : goal.returns-in-At-first_bad_real
+pub returns-in-Some-first_bad_real : goal.returns-in-Some-first_bad_real
 unfolding verdict
-returns-in-At-first_bad_real c =
+returns-in-Some-first_bad_real c =
     rw (
-      past-1 (goal.at.returns-in-At-first_bad_real c).In_default,
-      past-2 (goal.at.returns-in-At-first_bad_real c).In_default-too_many_loops,
-      past-3 (goal.at.returns-in-At-first_bad_real c).In_default-ends_in_counts,
-      past-4 (goal.at.returns-in-At-first_bad_real c).In_default-too_few_points,
-      past-5 (goal.at.returns-in-At-first_bad_real c).In_default-too_many_points,
-      past-6 (goal.at.returns-in-At-first_bad_real c).In_default-wrong_length,
-      found c.first_bad_real.ensures c.in-At-first_bad_real.is,
+      past-1 (goal.at.returns-in-Some-first_bad_real c).In_default,
+      past-2 (goal.at.returns-in-Some-first_bad_real c).In_default-too_many_loops,
+      past-3 (goal.at.returns-in-Some-first_bad_real c).In_default-ends_in_counts,
+      past-4 (goal.at.returns-in-Some-first_bad_real c).In_default-too_few_points,
+      past-5 (goal.at.returns-in-Some-first_bad_real c).In_default-too_many_points,
+      past-6 (goal.at.returns-in-Some-first_bad_real c).In_default-wrong_length,
+      found c.first_bad_real.ensures c.in-Some-first_bad_real.is,
     )
 
 pub returns : goal.returns
