@@ -34,8 +34,8 @@ module _ {s : List ℕ} where
   pub add_turn : {total n k : ℕ} → Adding s total k → k < loops s → n ≡ count s k → n < 65536 → Adding s (total + n) (k + 1)
   add_turn {total} {n} {k} a h e l = record { far = omega arith; is = start_next s total n k a.is e; small = let z = a.small in omega arith }
 
-  pub add-end : {total k : ℕ} → Adding s total k → loops s ≤ k → total ≡ points s
-  add-end {total} {k} a h = let e : k ≡ loops s = let z = a.far in omega arith in a.is ∙ ap (start s) e
+  pub add_end : {total k : ℕ} → Adding s total k → loops s ≤ k → total ≡ points s
+  add_end {total} {k} a h = let e : k ≡ loops s = let z = a.far in omega arith in a.is ∙ ap (start s) e
 
 -- ---- 3 and the halves of 6, where the code has the numbers l and n
 
@@ -97,9 +97,9 @@ module _ (s : List ℕ) {k : ℕ} (w : Seeking (few_at s) (loops s) k) where
   pub few_turn : {n : ℕ} → k < loops s → n ≡ count s k → min_points ≤ n → Seeking (few_at s) (loops s) (k + 1)
   few_turn h e l = seek_turn w h (le-ltb (count s k) min_points (omega arith))
 
-  pub few-end : loops s ≤ k → nowhere ≡ too_few_points s
+  pub few_end : loops s ≤ k → nowhere ≡ too_few_points s
   unfolding too_few_points
-  few-end h = seek_end w h
+  few_end h = seek_end w h
 
 -- ---- 5
 
@@ -112,9 +112,9 @@ pub record Totalling (L : Limits) (s : List ℕ) (total k : ℕ) : Type 0 where
   pub small : total ≤ 65535 * k
   pub seeking : Seeking (many_at L s) (loops s) k
 
-pub total-start : {L : Limits} {s : List ℕ} → Totalling L s 0 0
+pub total_start : {L : Limits} {s : List ℕ} → Totalling L s 0 0
 unfolding start
-total-start = record { is = refl; small = omega arith; seeking = seek_start }
+total_start = record { is = refl; small = omega arith; seeking = seek_start }
 
 module _ {L : Limits} {s : List ℕ} {total k : ℕ} (w : Totalling L s total k) where
   passed : {n : ℕ} → n ≡ count s k → total + n ≡ start s (suc k)
@@ -135,6 +135,9 @@ module _ {L : Limits} {s : List ℕ} {total k : ℕ} (w : Totalling L s total k)
         seeking = seek_turn w.seeking h (le-ltb L.points (start s (suc k)) (omega arith));
       }
 
-  pub total-end : loops s ≤ k → nowhere ≡ too_many_points L s
+  pub total_end : loops s ≤ k → nowhere ≡ too_many_points L s
   unfolding too_many_points
-  total-end h = seek_end w.seeking h
+  total_end h = seek_end w.seeking h
+
+-- what is known of a record that a condition has let pass
+pub ruleset let_pass = (header_there, counts_there_lem, all_there)

@@ -1,12 +1,12 @@
 -- What the reading functions answer: where something is too short nothing is written, and else the slices are filled.
 use mathlib.Core.Path.{◌≡◌, refl, sym, ap, ◌∙◌}
-use mathlib.Core.Bool.{Bool, true, false, not, ◌&&◌}
+use mathlib.Core.Bool.{Bool, true, false, ◌&&◌}
 use mathlib.Core.List.{List}
 use Prim.Native.Nat.{ℕ, ◌+◌, ◌*◌, ◌≤◌, ◌<◌}
 use native.Mathlib.Omega.{arith}
 use lib.ListN.{length}
 use lib.Ieee.{Float}
-use borrow.Author.Tests.{le-leb, lt-leb, leb-true, leb-false, not-true, not-false}
+use borrow.Author.Tests.{le-leb, lt-leb, leb-true, leb-false}
 use Rattle.std.specs.Prelude.{Some, None}
 use Rattle.records.specs.Bytes.{◌≤?◌, real_at, row_at}
 use Rattle.records.specs.Face.{header_size, head_reals, loops, counts, head, points, real_place, needed, corners_in}
@@ -29,14 +29,7 @@ and_right : (a b : Bool) → b ≡ false → (a && b) ≡ false
 and_right true b e = e
 and_right false b e = refl
 
--- ---- whether the counts are there, as the code finds it: r is the answer of `counts_there`
-
-module _ (s : List ℕ) {r : Bool} (e : r ≡ counts_there s) where
-  pub gone : not r ≡ true → counts_there s ≡ false
-  gone h = sym e ∙ not-true r h
-
-  pub there : not r ≡ false → counts_there s ≡ true
-  there h = sym e ∙ not-false r h
+-- ---- whether the counts are there
 
 pub there_long : (s : List ℕ) → counts_there s ≡ true → header_size + 2 * loops s ≤ length s
 unfolding counts_there
@@ -56,9 +49,9 @@ module _ (s d : List ℕ) where
   unfolding counts_fit
   counts_gone e = kept (rw e)
 
-  pub no_counts-room : {l : ℕ} → l ≡ loops s → length d < l → CountsRead s d d None
+  pub no_counts_room : {l : ℕ} → l ≡ loops s → length d < l → CountsRead s d d None
   unfolding counts_fit
-  no_counts-room e h = kept (and_right (counts_there s) _ (lt-leb (loops s) (length d) (omega arith)))
+  no_counts_room e h = kept (and_right (counts_there s) _ (lt-leb (loops s) (length d) (omega arith)))
 
   pub counts_read : counts_there s ≡ true → {l : ℕ} → l ≡ loops s → l ≤ length d → {d' : List ℕ} → d' ≡ front (counts s) d → CountsRead s d d' (Some l)
   unfolding counts_fit
@@ -77,9 +70,9 @@ module _ (s : List ℕ) (d : List Float) where
   pub no_head : {p : ℕ} → p ≡ real_place s head_reals → length s < p → HeadRead s d d None
   no_head e h = head_short (omega arith)
 
-  pub no_head-room : length d < head_reals → HeadRead s d d None
+  pub no_head_room : length d < head_reals → HeadRead s d d None
   unfolding head_fits
-  no_head-room h = kept (and_right (real_place s head_reals ≤? length s) _ (lt-leb head_reals (length d) h))
+  no_head_room h = kept (and_right (real_place s head_reals ≤? length s) _ (lt-leb head_reals (length d) h))
 
   pub head_read : {p : ℕ} → p ≡ real_place s head_reals → p ≤ length s → head_reals ≤ length d → {d' : List Float} → d' ≡ front (head s) d
       → HeadRead s d d' (Some head_reals)
@@ -107,12 +100,12 @@ module _ (s : List ℕ) (t : List Float) where
   no_corners e h = corners_short (omega arith)
 
   module _ {n m : ℕ} (e : n ≡ points s) (c : m ≡ length (rows t)) where
-    pub no_corners-room : m < n → CornersRead s t t None
+    pub no_corners_room : m < n → CornersRead s t t None
     unfolding points_fit
-    no_corners-room h = kept (and_right (needed s ≤? length s) _ (lt-leb (points s) (length (rows t)) (omega arith)))
+    no_corners_room h = kept (and_right (needed s ≤? length s) _ (lt-leb (points s) (length (rows t)) (omega arith)))
 
-    pub corners-room : {p : ℕ} → p ≡ needed s → p ≤ length s → n ≤ m → CornersRoom s n t
-    corners-room q h r = record { many = e; there = omega arith; room = omega arith }
+    pub corners_room : {p : ℕ} → p ≡ needed s → p ≤ length s → n ≤ m → CornersRoom s n t
+    corners_room q h r = record { many = e; there = omega arith; room = omega arith }
 
   pub corners_read : {n : ℕ} (t' : List Float) → CornersRoom s n t → rows t' ≡ front (corners_in s) (rows t) → CornersRead s t t' (Some n)
   unfolding points_fit

@@ -10,9 +10,10 @@ ghost use Rattle.records.specs.Answers.{place_of, verdict_of};
 
 use super::limits::Limits;
 use super::refusal::Refusal;
-use super::{HEAD_REALS, HEADER_SIZE, MIN_POINTS, count_at, loops, points, real_at, wide};
+use super::{HEAD_REALS, HEADER_SIZE, MIN_POINTS, count_at, loops, points, real_at};
 
 // 2, the same whatever the limits are: a step of its own
+#[tactic(auto, unfolding(crate::specs::Refusals::wrong_header, crate::specs::Refusals::wrong_byte, crate::specs::Refusals::first_from))]
 pub fn wrong_header(face: &[u8]) -> Option<usize>
     ensures { place_of result ≡ wrong_header face.now }
 {
@@ -38,6 +39,7 @@ pub fn wrong_header(face: &[u8]) -> Option<usize>
 }
 
 // 3
+#[tactic(auto, unfolding(crate::specs::Refusals::too_many_loops))]
 fn too_many_loops(face: &[u8], limits: Limits) -> Option<usize>
     requires { header_size ≤ length face.now }
     ensures { place_of result ≡ too_many_loops limits face.now }
@@ -50,6 +52,7 @@ fn too_many_loops(face: &[u8], limits: Limits) -> Option<usize>
 }
 
 // 6, the record ends inside its counts
+#[tactic(auto, unfolding(crate::specs::Refusals::ends_in_counts))]
 fn ends_in_counts(face: &[u8]) -> Option<usize>
     requires { header_size ≤ length face.now }
     ensures { place_of result ≡ ends_in_counts face.now }
@@ -66,13 +69,10 @@ fn too_few_points(face: &[u8]) -> Option<usize>
     requires { header_size + 2 * loops face.now ≤ length face.now }
     ensures { place_of result ≡ too_few_points face.now }
 {
-    let l = loops(face);
-    let mut k = 0;
-    while k < l {
+    for k in 0..loops(face) {
         if count_at(face, k) < MIN_POINTS {
             return Some(k);
         }
-        k += 1;
     }
     None
 }
@@ -82,20 +82,18 @@ fn too_many_points(face: &[u8], limits: Limits) -> Option<usize>
     requires { header_size + 2 * loops face.now ≤ length face.now }
     ensures { place_of result ≡ too_many_points limits face.now }
 {
-    let l = loops(face);
     let mut total = 0;
-    let mut k = 0;
-    while k < l {
+    for k in 0..loops(face) {
         total += count_at(face, k);
         if total > limits.points {
             return Some(k);
         }
-        k += 1;
     }
     None
 }
 
 // 6, the record's length is not the one that its counts give
+#[tactic(auto, unfolding(crate::specs::Refusals::wrong_length))]
 fn wrong_length(face: &[u8]) -> Option<usize>
     requires { header_size + 2 * loops face.now ≤ length face.now }
     ensures { place_of result ≡ wrong_length face.now }
@@ -112,10 +110,10 @@ fn wrong_length(face: &[u8]) -> Option<usize>
 fn between(low: f64, high: f64, x: f64) -> bool
     ensures { result ≡ (le low x && le x high) }
 {
-    if low <= x { x <= high } else { false }
+    low <= x && x <= high
 }
 
-fn radius_holds(kind: u64, x: f64) -> bool
+fn radius_holds(kind: u8, x: f64) -> bool
     ensures { result ≡ holds (radius kind) x }
 {
     if kind == 0 {
@@ -127,7 +125,7 @@ fn radius_holds(kind: u64, x: f64) -> bool
     between(0.000001, 1000000.0, x)
 }
 
-fn second_holds(kind: u64, x: f64) -> bool
+fn second_holds(kind: u8, x: f64) -> bool
     ensures { result ≡ holds (second kind) x }
 {
     if kind == 2 {
@@ -139,7 +137,7 @@ fn second_holds(kind: u64, x: f64) -> bool
     between(0.0, 0.0, x)
 }
 
-fn head_holds(kind: u64, i: usize, x: f64) -> bool
+fn head_holds(kind: u8, i: usize, x: f64) -> bool
     ensures { result ≡ holds (head_range kind i) x }
 {
     if i < 9 {
@@ -158,7 +156,7 @@ fn head_holds(kind: u64, i: usize, x: f64) -> bool
 }
 
 // Parameter real j, from 0: u and v in turn.
-fn uv_holds(kind: u64, j: usize, x: f64) -> bool
+fn uv_holds(kind: u8, j: usize, x: f64) -> bool
     ensures { result ≡ holds (uv_range kind j) x }
 {
     if j % 2 == 0 {
@@ -185,14 +183,12 @@ fn bad_head(face: &[u8]) -> Option<usize>
     requires { length face.now ≡ needed face.now }
     ensures { place_of result ≡ bad_from face.now 0 head_reals }
 {
-    let kind = wide(face[1]);
+    let kind = face[1];
     let at = HEADER_SIZE + 2 * loops(face);
-    let mut i = 0;
-    while i < HEAD_REALS {
+    for i in 0..HEAD_REALS {
         if !head_holds(kind, i, real_at(face, at + 8 * i)) {
             return Some(i);
         }
-        i += 1;
     }
     None
 }
@@ -201,14 +197,12 @@ fn bad_parameter(face: &[u8], n: usize) -> Option<usize>
     requires { (length face.now ≡ needed face.now) × (n ≡ points face.now) }
     ensures { place_of result ≡ bad_from face.now head_reals (2 * n) }
 {
-    let kind = wide(face[1]);
+    let kind = face[1];
     let at = HEADER_SIZE + 2 * loops(face) + 8 * HEAD_REALS;
-    let mut j = 0;
-    while j < 2 * n {
+    for j in 0..2 * n {
         if !uv_holds(kind, j, real_at(face, at + 8 * j)) {
             return Some(j);
         }
-        j += 1;
     }
     None
 }
@@ -218,16 +212,15 @@ fn bad_position(face: &[u8], n: usize) -> Option<usize>
     ensures { place_of result ≡ bad_from face.now (head_reals + 2 * n) (3 * n) }
 {
     let at = HEADER_SIZE + 2 * loops(face) + 8 * (HEAD_REALS + 2 * n);
-    let mut j = 0;
-    while j < 3 * n {
+    for j in 0..3 * n {
         if !xyz_holds(real_at(face, at + 8 * j)) {
             return Some(j);
         }
-        j += 1;
     }
     None
 }
 
+#[tactic(auto, using(crate::proofs::Reals::of_parts))]
 fn first_bad_real(face: &[u8]) -> Option<usize>
     requires { length face.now ≡ needed face.now }
     ensures { place_of result ≡ first_bad_real face.now }
@@ -247,6 +240,7 @@ fn first_bad_real(face: &[u8]) -> Option<usize>
 
 // ---- the check
 
+#[tactic(auto, using(crate::proofs::Counting::let_pass), unfolding(crate::specs::Refusals::verdict))]
 pub fn check(face: &[u8], limits: Limits) -> Result<(), Refusal>
     ensures { verdict_of result ≡ verdict (record_conditions limits) face.now }
 {

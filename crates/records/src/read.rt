@@ -15,7 +15,7 @@ use tables::corners::{Corner, count, put_corner};
 fn byte_at(s: &[u8], i: usize) -> u8
     ensures { result ≡ get_or s.now i 0 }
 {
-    if i < s.len() { s[i] } else { 0 }
+    s.get(i).copied().unwrap_or(0)
 }
 
 pub fn kind(face: &[u8]) -> u8
@@ -36,6 +36,7 @@ pub fn segments(face: &[u8]) -> u8
     byte_at(face, 4)
 }
 
+#[tactic(auto, unfolding(crate::specs::Lent::counts_there))]
 fn counts_there(face: &[u8]) -> bool
     ensures { result ≡ counts_there face.now }
 {
@@ -56,10 +57,8 @@ pub fn read_counts(face: &[u8], dst: &mut [usize]) -> Option<usize>
     if dst.len() < l {
         return None;
     }
-    let mut k = 0;
-    while k < l {
+    for k in 0..l {
         dst[k] = count_at(face, k);
-        k += 1;
     }
     Some(l)
 }
@@ -70,11 +69,9 @@ fn read_column(face: &[u8], base: usize, off: usize, w: usize, n: usize, dst: &m
     ensures { dst.new ≡ front (row_at real_at w face.now (base + off) n) dst.old }
 {
     let mut p = base + off;
-    let mut i = 0;
-    while i < n {
+    for i in 0..n {
         dst[i] = real_at(face, p);
         p += w;
-        i += 1;
     }
 }
 
@@ -97,6 +94,7 @@ pub fn read_head(face: &[u8], dst: &mut [f64]) -> Option<usize>
 }
 
 // The corner whose parameters stand at p and whose position stands at q.
+#[tactic(auto, using(crate::proofs::Columns::corner_read))]
 fn corner_in(face: &[u8], p: usize, q: usize) -> Corner
     requires { (p + 16 ≤ length face.now) × (q + 24 ≤ length face.now) }
     ensures { corner_of result ≡ corner_at face.now p q }
@@ -119,10 +117,8 @@ fn fill_corners(face: &[u8], n: usize, t: &mut [f64])
 {
     let uv = HEADER_SIZE + 2 * loops(face) + 8 * HEAD_REALS;
     let xyz = uv + 16 * n;
-    let mut i = 0;
-    while i < n {
+    for i in 0..n {
         put_corner(t, i, corner_in(face, uv + 16 * i, xyz + 24 * i));
-        i += 1;
     }
 }
 
