@@ -11,18 +11,18 @@ use Rattle.std.specs.Prelude.{Some, None}
 use Rattle.records.specs.Bytes.{◌≤?◌, real_at, row_at}
 use Rattle.records.specs.Face.{header_size, head_reals, loops, counts, head, points, real_place, needed, corners_in}
 use Rattle.tables.specs.Rows.{rows}
-use Rattle.records.specs.Lent.{front, filled_if, read_if, counts_there, counts_fit, head_fits, points_fit, ReadInto, CornersRoom, CountsRead, HeadRead, CornersRead}
+use Rattle.records.specs.Lent.{front, filled_if, counts_there, counts_fit, head_fits, points_fit, ReadInto, CornersRoom, CountsRead, HeadRead, CornersRead}
 use Rattle.records.proofs.Columns.{length-counts, length-head, column_head, length-corners}
 
 -- ---- one slice
 
 module _ {A : Type 0} {fits : Bool} {w d : List A} where
   kept : fits ≡ false → ReadInto fits w d d None
-  unfolding read_if filled_if
+  unfolding filled_if
   kept e = record { answer = rw e; is = rw e }
 
   filled : fits ≡ true → {d' : List A} {n : ℕ} → n ≡ length w → d' ≡ front w d → ReadInto fits w d d' (Some n)
-  unfolding read_if filled_if
+  unfolding filled_if
   filled e l h = record { answer = rw (e, l); is = rw e h }
 
 and_right : (a b : Bool) → b ≡ false → (a && b) ≡ false

@@ -1,5 +1,6 @@
 -- What reading and writing answer, and what they leave in lent slices: where something lent is too short, nothing is written.
-use Rattle.std.specs.Prelude.{◌≡◌, Bool, ◌&&◌, cond, List, ◌++◌, ℕ, ◌+◌, ◌*◌, ◌≤◌, length, drop, Float, Option, Some, None}
+use Rattle.std.specs.Prelude.{◌≡◌, Bool, ◌&&◌, cond, List, ◌++◌, ℕ, ◌+◌, ◌*◌, ◌≤◌, length, drop, Float, Option}
+use Rattle.std.specs.Bool.{then_some}
 use Rattle.tables.specs.Rows.{rows}
 use Rattle.records.specs.Bytes.{◌≤?◌}
 use Rattle.records.specs.Face.{header_size, head_reals, loops, counts, head, points, real_place, needed, corners_in}
@@ -13,9 +14,6 @@ unfoldable pub filled_if : {A : Type 0} → Bool → List A → List A → List 
 filled_if fits w d = cond fits (front w d) d
 
 -- ---- reading: `room` is how many values the lent slices hold
-
-unfoldable pub read_if : Bool → ℕ → Option ℕ
-read_if fits n = cond fits (Some n) None
 
 unfoldable pub counts_there : List ℕ → Bool
 counts_there s = header_size + 2 * loops s ≤? length s
@@ -31,7 +29,7 @@ points_fit s room = (needed s ≤? length s) && (points s ≤? room)
 
 -- what reading w into the slice d answers, and makes of it
 pub record ReadInto {A : Type 0} (fits : Bool) (w d d' : List A) (r : Option ℕ) : Type 0 where
-  pub answer : r ≡ read_if fits (length w)
+  pub answer : r ≡ then_some fits (length w)
   pub is : d' ≡ filled_if fits w d
 
 -- the points of s are there, n of them, and fit
