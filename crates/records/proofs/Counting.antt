@@ -6,12 +6,12 @@ use Prim.Native.Nat.{ℕ, suc, ◌+◌, ◌*◌, ◌≤◌, ◌<◌}
 use native.Mathlib.Numerals.{add-one}
 use native.Mathlib.Omega.{arith}
 use lib.ListN.{length}
-use borrow.Author.Tests.{lt-ltb, le-ltb, eq-eqb, ne_eqb, ltb-false, eqb-true, not-false}
+use borrow.Author.Tests.{lt-ltb, le-ltb, ltb-false, eqb-true, not-false}
 use Rattle.records.specs.Bytes.{◌<?◌}
 use Rattle.records.specs.Face.{header_size, loops, count, start, points, needed}
 use Rattle.records.specs.declared.limits.Limits.{Limits}
 use Rattle.records.specs.Limits.{min_points}
-use Rattle.records.specs.Refusals.{nowhere, at, first_where, wrong_byte, wrong_header, too_many_loops, ends_in_counts, too_few_points, too_many_points, wrong_length}
+use Rattle.records.specs.Refusals.{nowhere, at, first_where, wrong_byte, wrong_header, ends_in_counts, too_few_points, too_many_points, wrong_length}
 use Rattle.records.proofs.Search.{nowhere≢at, when_fails, Seeking, seek_start, seek_turn, seek_found, seek_end}
 
 start_next : (s : List ℕ) (total n k : ℕ) → total ≡ start s k → n ≡ count s k → total + n ≡ start s (k + 1)
@@ -36,34 +36,6 @@ module _ {s : List ℕ} where
 
   pub add_end : {total k : ℕ} → Adding s total k → loops s ≤ k → total ≡ points s
   add_end {total} {k} a h = let e : k ≡ loops s = let z = a.far in omega arith in a.is ∙ ap (start s) e
-
--- ---- 3 and the halves of 6, where the code has the numbers l and n
-
-module _ (L : Limits) (s : List ℕ) where
-  pub many_loops : {l : ℕ} → l ≡ loops s → L.loops < l → at l ≡ too_many_loops L s
-  unfolding too_many_loops
-  many_loops e h = rw (e, lt-ltb L.loops (loops s) (omega arith))
-
-  pub few_loops : {l : ℕ} → l ≡ loops s → l ≤ L.loops → nowhere ≡ too_many_loops L s
-  unfolding too_many_loops
-  few_loops e h = rw (le-ltb L.loops (loops s) (omega arith))
-
-module _ (s : List ℕ) where
-  pub in_counts : {n : ℕ} → n ≡ header_size + 2 * loops s → length s < n → at n ≡ ends_in_counts s
-  unfolding ends_in_counts
-  in_counts e h = rw (e, lt-ltb (length s) (header_size + 2 * loops s) (omega arith))
-
-  pub past-counts : {n : ℕ} → n ≡ header_size + 2 * loops s → n ≤ length s → nowhere ≡ ends_in_counts s
-  unfolding ends_in_counts
-  past-counts e h = rw (le-ltb (length s) (header_size + 2 * loops s) (omega arith))
-
-  pub bad_length : {n : ℕ} → n ≡ needed s → (length s ≡ n → ⊥) → at n ≡ wrong_length s
-  unfolding wrong_length
-  bad_length e h = rw (e, ne_eqb (length s) (needed s) (λ q. h (q ∙ sym e)))
-
-  pub good_length : {n : ℕ} → n ≡ needed s → length s ≡ n → nowhere ≡ wrong_length s
-  unfolding wrong_length
-  good_length e h = rw (eq-eqb (length s) (needed s) (h ∙ e))
 
 -- ---- what is known where a condition does not hold
 

@@ -39,29 +39,23 @@ pub fn wrong_header(face: &[u8]) -> Option<usize>
 }
 
 // 3
-#[tactic(auto, unfolding(crate::specs::Refusals::too_many_loops))]
+#[tactic(auto, using(crate::proofs::Search::when_some), unfolding(crate::specs::Refusals::too_many_loops))]
 fn too_many_loops(face: &[u8], limits: Limits) -> Option<usize>
     requires { header_size ≤ length face.now }
     ensures { place_of result ≡ too_many_loops limits face.now }
 {
     let l = loops(face);
-    if l > limits.loops {
-        return Some(l);
-    }
-    None
+    (l > limits.loops).then_some(l)
 }
 
 // 6, the record ends inside its counts
-#[tactic(auto, unfolding(crate::specs::Refusals::ends_in_counts))]
+#[tactic(auto, using(crate::proofs::Search::when_some), unfolding(crate::specs::Refusals::ends_in_counts))]
 fn ends_in_counts(face: &[u8]) -> Option<usize>
     requires { header_size ≤ length face.now }
     ensures { place_of result ≡ ends_in_counts face.now }
 {
     let end = HEADER_SIZE + 2 * loops(face);
-    if face.len() < end {
-        return Some(end);
-    }
-    None
+    (face.len() < end).then_some(end)
 }
 
 // 4
@@ -93,16 +87,13 @@ fn too_many_points(face: &[u8], limits: Limits) -> Option<usize>
 }
 
 // 6, the record's length is not the one that its counts give
-#[tactic(auto, unfolding(crate::specs::Refusals::wrong_length))]
+#[tactic(auto, using(crate::proofs::Search::when_some), unfolding(crate::specs::Refusals::wrong_length))]
 fn wrong_length(face: &[u8]) -> Option<usize>
     requires { header_size + 2 * loops face.now ≤ length face.now }
     ensures { place_of result ≡ wrong_length face.now }
 {
     let needed = HEADER_SIZE + 2 * loops(face) + 8 * (HEAD_REALS + 5 * points(face));
-    if face.len() != needed {
-        return Some(needed);
-    }
-    None
+    (face.len() != needed).then_some(needed)
 }
 
 // ---- the ranges of the reals
