@@ -9,18 +9,18 @@ returns-in-Closed c = λ s acc two given_is corners_are loops_are wraps_are area
     let a = c.args in
     let f = face_of_lem s a.corners.now a.given.now a.loops a.wraps.now a.frame a.surface a.options a.sense c.last_wrapping.result
     c.first_wrapping.result _ _
-    acc two given_is corners_are loops_are wraps_are surface_is frame_is options_are sense_is c.last_wrapping.ensures c.number_of-a.ensures
-    c.first_wrapping.ensures c.number_of-b.ensures in
+    acc two given_is corners_are loops_are wraps_are surface_is frame_is options_are sense_is c.last_wrapping.ensures c.unwrap_or-a.ensures
+    c.first_wrapping.ensures c.unwrap_or-b.ensures in
     filled_short _ _ _ _ _ _ _ _ _ _ f _ _ _ (c.band_of-closing.ensures s f (room_in _ (omega arith))) _ _ c.in-Closed.is (omega arith)
     (omega (arith, c.holes-2-1.given))
     _ a.counts.now _ a.areas.now _ _ c.pick_counts-arg-1.given.0.1 c.pick_areas-arg-1.given.0.1
-    c.copy_rows.ensures c.pick_counts.ensures (areas-put _ _ _ _ _ _ areas_are c.pick_areas.ensures) c.loops_left.ensures
+    c.copy_rows.ensures c.pick_counts.ensures (areas-put _ _ _ _ _ _ areas_are c.pick_areas.ensures) c.saturating_sub.ensures
 
 pub returns-in-TooMany : goal.returns-in-TooMany
 returns-in-TooMany c = λ s acc two given_is corners_are loops_are wraps_are areas_are surface_is frame_is options_are sense_is.
     let a = c.args in
     let f = face_of_lem s a.corners.now a.given.now a.loops a.wraps.now a.frame a.surface a.options a.sense c.last_wrapping.result
     c.first_wrapping.result _ _
-    acc two given_is corners_are loops_are wraps_are surface_is frame_is options_are sense_is c.last_wrapping.ensures c.number_of-a.ensures
-    c.first_wrapping.ensures c.number_of-b.ensures in
+    acc two given_is corners_are loops_are wraps_are surface_is frame_is options_are sense_is c.last_wrapping.ensures c.unwrap_or-a.ensures
+    c.first_wrapping.ensures c.unwrap_or-b.ensures in
     filled_long _ _ _ _ _ _ _ _ _ _ f _ _ _ (c.band_of-closing.ensures s f (room_in _ (omega arith))) _ _ _ c.in-TooMany.is
