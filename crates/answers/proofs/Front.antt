@@ -11,9 +11,10 @@ use lib.Seq.{sets, sets-eq}
 use Rattle.lists.proofs.Placed.{placed-fits, placed_short, length-placed}
 use Rattle.records.specs.Bytes.{◌≤?◌, bytes, number, number_at}
 use Rattle.records.specs.Call.{Outcome, refused, closed, lent_after, output}
-use Rattle.closer.specs.Returned.{answer_of}
-use Rattle.closer.specs.declared.Answer.{Answer}
-use Rattle.closer.specs.declared.Answer.TheVariants.{Closed, Refused}
+use Rattle.std.specs.Prelude.{Ok, Err}
+use Rattle.records.specs.declared.refusal.Refusal.{Refusal}
+use Rattle.records.specs.Answers.{refusal_number, refusal_place}
+use Rattle.closer.specs.Returned.{Tells}
 use Rattle.answers.specs.Written.{written, written_length, RefusalIn, FoundIn}
 
 -- r bytes are to be written, and the lent bytes, which were `old`, are `new`
@@ -62,42 +63,39 @@ result-written result old h = (
   ap (λ (k : ℕ). result ++ drop k old) (sym (zero-add (length result))) ∙ sym (placed-fits 0 result old (omega arith)),
 )
 
--- ---- what was judged
+-- ---- what was judged, and so answered: the lent bytes, which were `old`, are as the call leaves them
 
--- o is what was judged, and r was answered
-module _ (o : Outcome) {r : Answer} (answered : r ≡ answer_of o) (old : List ℕ) where
-  module _ {new : List ℕ} {n : ℕ} (left : new ≡ lent_after o old) (r_is : r ≡ Closed n) (long : length new ≡ length old) where
+module _ (o : Outcome) (old : List ℕ) where
+  module _ {new : List ℕ} {n : ℕ} (answered : Tells (Ok n) o) (left : new ≡ lent_after o old) (long : length new ≡ length old) where
     -- a result record fits what was lent
     pub closed-fits : n ≤ length new
-    closed-fits = by_outcome o (sym r_is ∙ answered) left
+    closed-fits = by_outcome o answered left
       where
-        by_outcome : (o : Outcome) → Closed n ≡ answer_of o → new ≡ lent_after o old → n ≤ length new
+        by_outcome : (o : Outcome) → Tells (Ok n) o → new ≡ lent_after o old → n ≤ length new
         by_outcome (closed result) told kept =
-            let m : n ≡ length result = cc in
             let l = length-append result (drop (length result) old) in
             let w = ap length kept in
             omega arith
-        by_outcome (refused number place) told kept = let z : ◌≡◌ {A = ℕ} 0 1 = cc in absurd (omega arith)
+        by_outcome (refused number place) told kept = absurd told
 
     -- and is what is to be written
     pub closed-written : Wrote o old n new
-    closed-written = by_outcome o (sym r_is ∙ answered) left
+    closed-written = by_outcome o answered left
       where
-        by_outcome : (o : Outcome) → Closed n ≡ answer_of o → new ≡ lent_after o old → Wrote o old n new
+        by_outcome : (o : Outcome) → Tells (Ok n) o → new ≡ lent_after o old → Wrote o old n new
         by_outcome (closed result) told kept =
-            let m : n ≡ length result = cc in
             let f = closed-fits in
-            rw (m, kept) (result-written result old (omega arith))
-        by_outcome (refused number place) told kept = let z : ◌≡◌ {A = ℕ} 0 1 = cc in absurd (omega arith)
+            rw (told, kept) (result-written result old (omega arith))
+        by_outcome (refused number place) told kept = absurd told
 
   -- six bytes are what is to be written of a refusal, which left the lent bytes as they were
-  pub refused_written : {lent new : List ℕ} {n number place : ℕ} → lent ≡ lent_after o old → r ≡ Refused number place
-      → Wrote (refused number place) lent n new → Wrote o old n new
-  refused_written {lent} {new} {n} {number} {place} left r_is six = by_outcome o (sym r_is ∙ answered) left
+  pub refused_written : (r : Refusal) {lent new : List ℕ} {n number place : ℕ} → Tells (Err r) o → lent ≡ lent_after o old
+      → number ≡ refusal_number r → place ≡ refusal_place r → Wrote (refused number place) lent n new → Wrote o old n new
+  refused_written r {lent} {new} {n} {number} {place} answered left number_is place_is wrote = by_outcome o answered left
     where
-      by_outcome : (o : Outcome) → Refused number place ≡ answer_of o → lent ≡ lent_after o old → Wrote o old n new
+      by_outcome : (o : Outcome) → Tells (Err r) o → lent ≡ lent_after o old → Wrote o old n new
       by_outcome (refused m q) told kept =
-          let a : number ≡ m = cc in
-          let b : place ≡ q = cc in
-          rw (← a, ← b, ← kept) six
-      by_outcome (closed result) told kept = let z : ◌≡◌ {A = ℕ} 0 1 = cc in absurd (omega arith)
+          let a : number ≡ m = number_is ∙ told.0 in
+          let b : place ≡ q = place_is ∙ told.1 in
+          rw (← a, ← b, ← kept) wrote
+      by_outcome (closed result) told kept = absurd told

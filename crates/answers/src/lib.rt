@@ -8,21 +8,15 @@ ghost use Rattle.records.specs.Call.{refused};
 ghost use Rattle.call.specs.Judge.{judge};
 ghost use Rattle.answers.specs.Written.{written, written_length, FoundIn};
 
-use closer::{Answer, close_face};
+use closer::close_face;
 
 // The four lowest bytes of a number, the lowest first.
+#[tactic(auto, unfolding(records::specs::Bytes::bytes))]
 pub fn four_bytes(n: usize) -> [u8; 4]
     ensures { result ≡ bytes 4 n }
 {
-    let second = n / 256;
-    let third = second / 256;
-    let fourth = third / 256;
-    [
-        (n % 256) as u8,
-        (second % 256) as u8,
-        (third % 256) as u8,
-        (fourth % 256) as u8,
-    ]
+    let [first, second, third, fourth, ..] = n.to_le_bytes();
+    [first, second, third, fourth]
 }
 
 // 0, the refusal, its place in four bytes.
@@ -30,18 +24,13 @@ fn put_refusal(out: &mut [u8], number: u8, place: usize)
     requires { 6 ≤ length out.old }
     ensures { out.new ≡ sets out.old 0 (0 ∷ number ∷ bytes 4 place) }
 {
-    let four = four_bytes(place);
-    out[0] = 0;
-    out[1] = number;
-    out[2] = four[0];
-    out[3] = four[1];
-    out[4] = four[2];
-    out[5] = four[3];
+    let [a, b, c, d] = four_bytes(place);
+    out[..6].copy_from_slice(&[0, number, a, b, c, d]);
 }
 
 // A refusal as the program `close` writes it, at the front of `out`. Answers how many bytes it takes;
 // fewer than six do not hold it, and stay. Four bytes hold a place below 2^32, as those of every
-// refused call are.
+// refused call are. It takes the two numbers, and so what is no `Refusal` too.
 pub fn write_refusal(number: u8, place: usize, out: &mut [u8]) -> usize
     ensures value { result ≡ written_length (refused number place) out.old }
     ensures out_after { out.new ≡ written (refused number place) out.old }
@@ -60,9 +49,8 @@ pub fn write_answer(face: &[u8], out: &mut [u8]) -> usize
     ensures out_after { out.new ≡ written (judge (length out.old) face.now) out.old }
     ensures found_in { FoundIn (judge (length out.old) face.now) out.old out.new }
 {
-    let answer = close_face(face, out);
-    match answer {
-        Answer::Closed(length) => length,
-        Answer::Refused { number, place } => write_refusal(number, place, out),
+    match close_face(face, out) {
+        Ok(length) => length,
+        Err(refusal) => write_refusal(refusal.number(), refusal.place(), out),
     }
 }

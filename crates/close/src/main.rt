@@ -7,7 +7,6 @@ ghost use Rattle.records.specs.Call.{output};
 ghost use Rattle.records.specs.Limits.{version1};
 ghost use Rattle.call.specs.Judge.{judge};
 ghost use Rattle.answers.specs.Written.{FoundIn};
-ghost use Rattle.close.specs.Input.{Within};
 
 use answers::write_answer;
 use std::io;
@@ -24,18 +23,10 @@ const LENT: usize = 61614;
 // says that signals do.
 const TRIES: u32 = 1000;
 
-#[derive(Clone, Copy)]
-enum Input {
-    // So many bytes are there.
-    Length(usize),
-    // A read failed, and the input may not have been at its end.
-    Failed,
-}
-
 // Reads once, to the bytes from `done` on, and says how many are there then.
 fn read_once(input: &mut Stdin, bytes: &mut [u8], done: usize) -> io::Result<usize>
     requires { done ≤ length bytes.old }
-    ensures within { IfOk result (λ there. Within (Input.Length there) done (length bytes.new)) }
+    ensures within { IfOk result (λ there. (done ≤ there) × (there ≤ length bytes.new)) }
     ensures bytes_unchanged { take done bytes.new ≡ take done bytes.old }
 {
     let more = input.read(&mut bytes[done..])?;
@@ -43,41 +34,38 @@ fn read_once(input: &mut Stdin, bytes: &mut [u8], done: usize) -> io::Result<usi
 }
 
 // Reads once, and again where a signal interrupted the read before it moved a byte.
-fn read_more(input: &mut Stdin, bytes: &mut [u8], done: usize) -> Input
+fn read_more(input: &mut Stdin, bytes: &mut [u8], done: usize) -> io::Result<usize>
     requires { done ≤ length bytes.old }
-    ensures within { Within result done (length bytes.new) }
+    ensures within { IfOk result (λ there. (done ≤ there) × (there ≤ length bytes.new)) }
     ensures bytes_unchanged { take done bytes.new ≡ take done bytes.old }
 {
-    let mut tries = TRIES;
-    while tries > 0 {
+    for _ in 1..TRIES {
         match read_once(input, bytes, done) {
-            Ok(there) => return Input::Length(there),
+            Ok(there) => return Ok(there),
             Err(error) => {
                 if error.kind() != ErrorKind::Interrupted {
-                    return Input::Failed;
+                    return Err(error);
                 }
             }
         }
-        tries -= 1;
     }
-    Input::Failed
+    read_once(input, bytes, done)
 }
 
-// Reads until the input ends or the bytes are full.
-fn read_input(input: &mut Stdin, bytes: &mut [u8]) -> Input
-    ensures { Within result 0 (length bytes.new) }
+// Reads until the input ends or the bytes are full, and says how many are there. Where a read fails,
+// the input may not have been at its end.
+fn read_input(input: &mut Stdin, bytes: &mut [u8]) -> io::Result<usize>
+    ensures { IfOk result (λ there. there ≤ length bytes.new) }
 {
     let mut done = 0;
     while done < bytes.len() {
-        let Input::Length(there) = read_more(input, bytes, done) else {
-            return Input::Failed;
-        };
+        let there = read_more(input, bytes, done)?;
         if there == done {
-            return Input::Length(done);
+            break;
         }
         done = there;
     }
-    Input::Length(done)
+    Ok(done)
 }
 
 // What is to be written of the `n` bytes that were read, at the front of `out`; of a refusal the place
@@ -97,8 +85,7 @@ fn answer_input(face: &[u8; READ], n: usize, out: &mut [u8; LENT]) -> usize
 // Where a read fails nothing is written, and a write that fails is not told: the status is 0.
 fn main(rt: HostRuntime) {
     let mut face = [0u8; READ];
-    let input = read_input(&mut rt.stdin(), &mut face);
-    let Input::Length(n) = input else {
+    let Ok(n) = read_input(&mut rt.stdin(), &mut face) else {
         return;
     };
     let mut out = [0u8; LENT];

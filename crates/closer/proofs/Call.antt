@@ -8,16 +8,18 @@ use mir.Syntax.{w8}
 use mir.Val.{Fits}
 use borrow.Author.Tests.{lt-ltb, le-ltb}
 use lib.ListN.{length, get_or, take, length-map}
-use Rattle.records.specs.declared.check.Place.{Place as Found}
-use Rattle.records.specs.declared.check.Place.TheVariants.{At}
+use Rattle.std.specs.Prelude.{Option, Result, Ok, Err}
+use Rattle.std.specs.Option.{unwrap_or}
+use Rattle.records.specs.declared.refusal.Refusal.{Refusal}
+use Rattle.records.specs.declared.refusal.Refusal.TheVariants.{TooFewLent, WrongHeader}
 use Rattle.records.specs.declared.limits.Limits.{Limits}
 use Rattle.records.specs.Accepted.{Accepted}
-use Rattle.records.specs.Answers.{place_of}
+use Rattle.records.specs.Answers.{refusal_number, refusal_place}
 use Rattle.records.specs.Call as Call
 use Rattle.records.specs.Call.{Outcome, outcome, code, value, lent_after}
 use Rattle.records.specs.Encodable.{version1_encodable}
 use Rattle.records.specs.Limits.{version1}
-use Rattle.records.specs.Refusals.{Verdict, passes, refuses, Condition, NoneHolds, record_conditions, too_few_lent, wrong_header, verdict}
+use Rattle.records.specs.Refusals.{Verdict, at, passes, refuses, Condition, NoneHolds, record_conditions, too_few_lent, wrong_header, verdict}
 use Rattle.records.specs.Result.{count_of}
 use Rattle.records.proofs.Refused.{verdict-passes}
 use Rattle.records.proofs.Accepted.{accepted_exactly}
@@ -30,16 +32,12 @@ use Rattle.magnitudes.specs.Bounded.{ResultBounded}
 use Rattle.magnitudes.proofs.Still.{whole_demand}
 use Rattle.magnitudes.proofs.Theorem.{result_bounded}
 use Rattle.results.specs.declared.Path.{Path}
-use Rattle.results.specs.declared.Written.{Written}
 use Rattle.results.specs.Written.{path_of, WrittenTo}
-use Rattle.filling.specs.declared.face.Filled.{Filled}
-use Rattle.filling.specs.declared.face.Filled.TheVariants.{Face, Refused as Refuses}
-use Rattle.filling.specs.Filled.{HoldsResult, path_taken, FillsTo}
-use Rattle.closer.specs.declared.Answer.{Answer}
-use Rattle.closer.specs.declared.Answer.TheVariants.{Closed, Refused}
-use Rattle.closer.specs.Returned.{answer_of, code_of, value_of, bytes_written, WrittenBytes}
+use Rattle.filling.specs.declared.face.FilledFace.{FilledFace}
+use Rattle.filling.specs.Filled.{HoldsResult, FillsTo}
+use Rattle.closer.specs.Returned.{Tells, code_of, value_of, WrittenBytes}
 use Rattle.closer.proofs.Numbers.{code_is, value_is}
-use Rattle.closer.proofs.Written.{AnswersTo, refused_by, front_full, refuses_told, passes_told, path-taken, first_passes, result-written}
+use Rattle.closer.proofs.Written.{AnswersTo, refused_by, front_full, path-taken, first_passes, result-written}
 
 -- what the contract claims of a pair and of the lent bytes, beside its equations
 abbrev Claims : (s old : List ℕ) (code value : ℕ) (new : List ℕ) → Type 0
@@ -50,8 +48,8 @@ module _ (s old : List ℕ) (byte : Fits w8 (get_or s 2 0)) where
   abbrev o : Outcome
   o = judge (length old) s
 
-  pub promised : {r : Answer} {new : List ℕ} → AnswersTo o r old new
-      → (r ≡ answer_of o) × ((new ≡ lent_after o old) × Claims s old (code_of r) (value_of r) new)
+  pub promised : {r : Result ℕ Refusal} {new : List ℕ} → AnswersTo o r old new
+      → Tells r o × ((new ≡ lent_after o old) × Claims s old (code_of r) (value_of r) new)
   promised {r} {new} h =
       let c = code_is o r h.answer in
       let v = value_is o r h.answer in
@@ -62,10 +60,10 @@ module _ (s old : List ℕ) (byte : Fits w8 (get_or s 2 0)) where
       )
 
 -- what is promised of an answer, of the two numbers that are told of it
-pub paired : (o : Outcome) (s old : List ℕ) {r : Answer} {new : List ℕ} {number at : ℕ} → number ≡ code_of r → at ≡ value_of r
-    → (r ≡ answer_of o) × ((new ≡ lent_after o old) × Claims s old (code_of r) (value_of r) new)
+pub paired : (o : Outcome) (s old : List ℕ) (r : Result ℕ Refusal) {new : List ℕ} {number at : ℕ} → number ≡ code_of r → at ≡ value_of r
+    → Tells r o × ((new ≡ lent_after o old) × Claims s old (code_of r) (value_of r) new)
     → (number ≡ code o) × ((at ≡ value o) × ((new ≡ lent_after o old) × Claims s old number at new))
-paired o s old {r} {new} n v h = (
+paired o s old r {new} n v h = (
   n ∙ code_is o r h.0,
   (v ∙ value_is o r h.0, (h.1.0, rw (n, v) h.1.1)),
 )
@@ -75,9 +73,9 @@ abbrev behind_lent : List Condition
 behind_lent = record_conditions version1 ++ later_conditions version1
 
 module _ (old s : List ℕ) where
-  pub too_few : (limits : Limits) → limits ≡ version1 → length old < limits.result → AnswersTo (judge (length old) s) (Refused 1 limits.result) old old
+  pub too_few : (limits : Limits) → limits ≡ version1 → length old < limits.result → AnswersTo (judge (length old) s) (Err (TooFewLent limits.result)) old old
   unfolding Call.judge verdict too_few_lent
-  too_few limits e h = rw e (refused_by _ 1 version1.result (rw (lt-ltb (length old) version1.result (rw e at h))) old)
+  too_few limits e h = rw e (refused_by _ (TooFewLent version1.result) (rw (lt-ltb (length old) version1.result (rw e at h))) old)
 
   module _ (limits : Limits) (limits_are : limits ≡ version1) (lent : limits.result ≤ length old) where
     enough : version1.result ≤ length old
@@ -92,41 +90,44 @@ module _ (old s : List ℕ) where
     judge_is v e = ap (λ (w : Verdict). outcome w (result s)) (lent-passes ∙ e)
 
     -- refusal 2 stands first behind it
-    pub header_refused : (found : Found) (p : ℕ) → place_of found ≡ wrong_header s → found ≡ At p → AnswersTo (judge (length old) s) (Refused 2 p) old old
+    pub header_refused : (p : ℕ) → at p ≡ wrong_header s → AnswersTo (judge (length old) s) (Err (WrongHeader p)) old old
     unfolding verdict
-    header_refused found p is e = refused_by _ 2 p (judge_is (refuses 2 p) (rw (sym is ∙ ap place_of e))) old
+    header_refused p is = refused_by _ (WrongHeader p) (judge_is (refuses 2 p) (rw (sym is))) old
 
-    module _ (r : Filled) (counts : List ℕ) (areas t : List Float) (f : FillsTo (verdict behind_lent s) s r counts areas t) where
-      pub face_refused : (n p : ℕ) → r ≡ Refuses n p → AnswersTo (judge (length old) s) (Refused n p) old old
-      face_refused n p e = refused_by _ n p (judge_is (refuses n p) (refuses_told _ s n p (sym e ∙ f.answer))) old
+    module _ (counts : List ℕ) (areas t : List Float) where
+      pub face_refused : (r : Refusal) → FillsTo (verdict behind_lent s) s (Err r) counts areas t → AnswersTo (judge (length old) s) (Err r) old old
+      face_refused r f = refused_by _ r (judge_is (refuses (refusal_number r) (refusal_place r)) (sym f.answer)) old
 
-      module _ (path : Path) (n : ℕ) (e : r ≡ Face path n) where
-        told : (verdict behind_lent s ≡ passes) × ((path ≡ path_taken s) × (n ≡ length (result_loops s)))
-        told = passes_told _ s path n (sym e ∙ f.answer)
+      module _ (filled : FilledFace) (f : FillsTo (verdict behind_lent s) s (Ok filled) counts areas t) where
+        passed : verdict behind_lent s ≡ passes
+        passed = sym f.answer
 
-        held : HoldsResult (result_loops s) (take n counts) areas t
-        held = subst (λ (k : ℕ). HoldsResult (result_loops s) (take k counts) areas t) (sym told.1.1) (f.holds told.0)
+        many : filled.loops ≡ length (result_loops s)
+        many = ap (λ (k : FilledFace). k.loops) f.face
 
-        counts_there_lem : n ≤ length counts
-        counts_there_lem = front_full n counts (ap length held.counts_are ∙ length-map (result_loops s) count_of ∙ sym told.1.1)
+        held : HoldsResult (result_loops s) (take filled.loops counts) areas t
+        held = subst (λ (k : ℕ). HoldsResult (result_loops s) (take k counts) areas t) (sym many) (f.holds passed)
+
+        counts_there_lem : filled.loops ≤ length counts
+        counts_there_lem = front_full filled.loops counts (ap length held.counts_are ∙ length-map (result_loops s) count_of ∙ sym many)
 
         free : NoneHolds (all_conditions (length old)) s
-        free = (verdict-passes s (all_conditions (length old))).0 (lent-passes ∙ told.0)
+        free = (verdict-passes s (all_conditions (length old))).0 (lent-passes ∙ passed)
 
         accepted : Accepted version1 s
-        accepted = (accepted_exactly s version1).0 (first_passes s (later_conditions version1) (record_conditions version1) told.0)
+        accepted = (accepted_exactly s version1).0 (first_passes s (later_conditions version1) (record_conditions version1) passed)
 
-        pub face-closed : (new : List ℕ) (k : ℕ) → WrittenBytes path n counts areas t old new k → AnswersTo (judge (length old) s) (Closed k) old new
+        pub face-closed : (new : List ℕ) (k : ℕ) → WrittenBytes filled.path filled.loops counts areas t old new k → AnswersTo (judge (length old) s) (Ok k) old new
         face-closed new k w =
-            let few : min n (length counts) ≡ n = let c = counts_there_lem in omega arith in
-            let to : WrittenTo path (take n counts) areas t old new w.written =
-            subst (λ (m : ℕ). WrittenTo path (take m counts) areas t old new w.written) few w.written_to in
-            subst (λ (o : Outcome). AnswersTo o (Closed k) old new) (sym (judge_is passes told.0))
+            let few : min filled.loops (length counts) ≡ filled.loops = let c = counts_there_lem in omega arith in
+            let to : WrittenTo filled.path (take filled.loops counts) areas t old new w.written =
+            subst (λ (m : ℕ). WrittenTo filled.path (take m counts) areas t old new w.written) few w.written_to in
+            subst (λ (o : Outcome). AnswersTo o (Ok k) old new) (sym (judge_is passes passed))
             (result-written version1 version1_encodable s accepted.loops_are accepted.total (strip_short version1 (length old) s free)
-            path (ap path_of told.1.0 ∙ path-taken s) (take n counts) areas t held old enough new w.written k to w.bytes)
+            filled.path (ap (λ (k : FilledFace). path_of k.path) f.face ∙ path-taken s) (take filled.loops counts) areas t held old enough new w.written k to w.bytes)
 
 -- the bytes of a result with l of its counts
 pub bytes_told : (path : Path) (loops : ℕ) (counts : List ℕ) (areas t : List Float) (old new : List ℕ) (r l : ℕ) → l ≡ min loops (length counts)
-    → (w : Written) → WrittenTo path (take l counts) areas t old new w → r ≡ bytes_written w → WrittenBytes path loops counts areas t old new r
+    → (w : Option ℕ) → WrittenTo path (take l counts) areas t old new w → r ≡ unwrap_or w 0 → WrittenBytes path loops counts areas t old new r
 bytes_told path loops counts areas t old new r l l_is w to bytes =
     record { written = w; written_to = subst (λ (m : ℕ). WrittenTo path (take m counts) areas t old new w) l_is to; bytes = bytes }

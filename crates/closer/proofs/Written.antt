@@ -17,43 +17,36 @@ use Rattle.records.specs.Face.{loops, points}
 use Rattle.records.specs.Lent.{filled_if}
 use Rattle.records.specs.declared.limits.Limits.{Limits}
 use Rattle.records.specs.Encodable.{Encodable}
-use Rattle.records.specs.Refusals.{Place, nowhere, at, Condition, Verdict, passes, refuses, refuse_at, verdict}
+use Rattle.records.specs.Refusals.{Place, nowhere, at, Condition, passes, refuse_at, verdict}
 use Rattle.records.specs.Result.{Short, Writable, encode, corners_of, count_of, area_of, result_of}
 use Rattle.records.proofs.RoundTrip.{length-encode, encode-fits}
 use Rattle.results.specs.declared.Path.{Path}
 use Rattle.results.specs.declared.Path.TheVariants.{Closed as Closes, Wrapped, Whole}
-use Rattle.results.specs.declared.Written.{Written}
-use Rattle.results.specs.Written.{path_of, table_result, all_short, header_holds, length_of, written_if, result_fits, WrittenTo}
+use Rattle.std.specs.Prelude.{Option, Result, Ok, Err}
+use Rattle.std.specs.Bool.{then_some}
+use Rattle.std.specs.Option.{unwrap_or}
+use Rattle.records.specs.declared.refusal.Refusal.{Refusal}
+use Rattle.records.specs.Answers.{refusal_number, refusal_place}
+use Rattle.results.specs.Written.{path_of, table_result, all_short, header_holds, length_of, result_fits, WrittenTo}
 use Rattle.results.proofs.Given.{table_loops}
 use Rattle.call.specs.Face.{wrapping}
 use Rattle.call.specs.Judge.{result}
 use Rattle.call.specs.Later.{strip_points}
 use Rattle.call.specs.Paths.{path_in, result_loops, result_in}
 use Rattle.call.proofs.Written.{result_fine, result_writable}
-use Rattle.filling.specs.declared.face.Filled.TheVariants.{Face, Refused as Refuses}
-use Rattle.filling.specs.Filled.{HoldsResult, path_taken, filled_by}
-use Rattle.closer.specs.declared.Answer.{Answer}
-use Rattle.closer.specs.declared.Answer.TheVariants.{Closed, Refused}
-use Rattle.closer.specs.Returned.{answer_of, bytes_written}
+use Rattle.filling.specs.Filled.{HoldsResult, path_taken}
+use Rattle.closer.specs.Returned.{Tells}
 
 -- r is answered, and the lent bytes, which were `old`, are `new`
-pub record AnswersTo (o : Outcome) (r : Answer) (old new : List ℕ) : Type 0 where
-  pub answer : r ≡ answer_of o
+pub record AnswersTo (o : Outcome) (r : Result ℕ Refusal) (old new : List ℕ) : Type 0 where
+  pub answer : Tells r o
   pub lent : new ≡ lent_after o old
 
 -- what is answered and left where the judgement is a refusal
-pub refused_by : (o : Outcome) (n p : ℕ) → o ≡ refused n p → (old : List ℕ) → AnswersTo o (Refused n p) old old
-refused_by o n p e old = record { answer = sym (ap answer_of e); lent = sym (ap (λ (j : Outcome). lent_after j old) e) }
+pub refused_by : (o : Outcome) (r : Refusal) → o ≡ refused (refusal_number r) (refusal_place r) → (old : List ℕ) → AnswersTo o (Err r) old old
+refused_by o r e old = record { answer = rw e (refl, refl); lent = sym (ap (λ (j : Outcome). lent_after j old) e) }
 
--- ---- what filling tells of the verdict
-
-pub refuses_told : (v : Verdict) (s : List ℕ) (n p : ℕ) → Refuses n p ≡ filled_by v s → v ≡ refuses n p
-refuses_told passes s n p e = absurd (let z : ◌≡◌ {A = ℕ} 0 1 = cc in omega arith)
-refuses_told (refuses m q) s n p e = cc
-
-pub passes_told : (v : Verdict) (s : List ℕ) (path : Path) (n : ℕ) → Face path n ≡ filled_by v s → (v ≡ passes) × ((path ≡ path_taken s) × (n ≡ length (result_loops s)))
-passes_told passes s path n e = let p : path ≡ path_taken s = cc in let q : n ≡ length (result_loops s) = cc in (refl, (p, q))
-passes_told (refuses m q) s path n e = absurd (let z : ◌≡◌ {A = ℕ} 0 1 = cc in omega arith)
+-- ---- what filling tells
 
 pub path-taken : (s : List ℕ) → path_of (path_taken s) ≡ path_in s
 unfolding path_taken path_in
@@ -138,9 +131,9 @@ module _ (L : Limits) (encodable : Encodable L) (s : List ℕ) (few_loops : loop
       let n = short in
       rw (header, le-leb (length_of counts) (length out) (omega arith), le-leb (length counts) (length areas) areas_there, le-leb (sum counts) (length (rows t)) corners_there)
 
-  pub result-written : (new : List ℕ) (w : Written) (k : ℕ) → WrittenTo path counts areas t out new w → k ≡ bytes_written w → AnswersTo (closed (result s)) (Closed k) out new
-  unfolding written_if filled_if
+  pub result-written : (new : List ℕ) (w : Option ℕ) (k : ℕ) → WrittenTo path counts areas t out new w → k ≡ unwrap_or w 0 → AnswersTo (closed (result s)) (Ok k) out new
+  unfolding filled_if
   result-written new w k wr e = record {
-    answer = ap Closed (e ∙ ap bytes_written (wr.answer ∙ ap (λ (t : Bool). written_if t (length_of counts)) fits) ∙ sym long);
+    answer = e ∙ ap (λ (o : Option ℕ). unwrap_or o 0) (wr.answer ∙ ap (λ (t : Bool). then_some t (length_of counts)) fits) ∙ sym long;
     lent = wr.is ∙ (λ i. filled_if (fits i) (encode (result_is i)) out);
   }

@@ -7,23 +7,24 @@ ghost use Rattle.call.specs.Judge.{judge};
 ghost use Rattle.magnitudes.specs.Bounded.{ResultBounded};
 ghost use Rattle.closer.specs.Returned.{code_of, value_of};
 
-use super::{Answer, close_face};
+use super::close_face;
+use records::refusal::Refusal;
 
-fn code_of(answer: Answer) -> u32
+fn code_of(answer: Result<usize, Refusal>) -> u32
     ensures { result ≡ code_of answer }
 {
     match answer {
-        Answer::Closed(_) => 0,
-        Answer::Refused { number, place } => number as u32,
+        Ok(_) => 0,
+        Err(refusal) => u32::from(refusal.number()),
     }
 }
 
-fn value_of(answer: Answer) -> usize
+fn value_of(answer: Result<usize, Refusal>) -> usize
     ensures { result ≡ value_of answer }
 {
     match answer {
-        Answer::Closed(n) => n,
-        Answer::Refused { number, place } => place,
+        Ok(length) => length,
+        Err(refusal) => refusal.place(),
     }
 }
 

@@ -6,71 +6,54 @@ ghost use Rattle.records.specs.Call.{lent_after};
 ghost use Rattle.call.specs.Demands.{Demand1, BandDemand, WholeDemand};
 ghost use Rattle.call.specs.Judge.{judge};
 ghost use Rattle.magnitudes.specs.Bounded.{ResultBounded};
-ghost use Rattle.closer.specs.Returned.{answer_of, code_of, value_of, bytes_written, WrittenBytes};
+ghost use Rattle.closer.specs.Returned.{Tells, code_of, value_of, WrittenBytes};
 
-use filling::face::{Filled, fill_face};
-use records::check::{Place, wrong_header};
+use filling::face::{FilledFace, fill_face};
+use records::check::wrong_header;
 use records::limits::version1;
-use results::{Path, Written, write_result};
+use records::refusal::Refusal;
+use results::write_result;
 use tables::slices::shorter;
 
 pub mod entry;
 
-#[derive(Clone, Copy)]
-pub enum Answer {
-    // The length of the result record.
-    Closed(usize),
-    Refused { number: u8, place: usize },
-}
-
-// How many bytes were written: none where something was too short.
-fn bytes_written(written: Written) -> usize
-    ensures { result ≡ bytes_written written }
-{
-    match written {
-        Written::Length(n) => n,
-        Written::Refused => 0,
-    }
-}
-
-// A result of so many loops, written into the front of the lent bytes. Answers how many it takes.
+// A result of so many loops, written into the front of the lent bytes. Answers how many it takes, none
+// where something is too short.
 fn write_loops(
-    path: Path,
-    loops: usize,
+    face: FilledFace,
     counts: &[usize],
     areas: &[f64],
     t: &[f64],
     res: &mut [u8],
 ) -> usize
-    ensures { WrittenBytes path loops counts.now areas.now t.now res.old res.new result }
+    ensures { WrittenBytes face.path face.loops counts.now areas.now t.now res.old res.new result }
 {
-    let l = shorter(loops, counts.len());
-    bytes_written(write_result(path, &counts[..l], areas, t, res))
+    let l = shorter(face.loops, counts.len());
+    write_result(face.path, &counts[..l], areas, t, res).unwrap_or(0)
 }
 
 // What filling leaves in its arrays, written.
 fn write_filled(
-    path: Path,
-    loops: usize,
+    face: FilledFace,
     counts: &[usize; 16],
     areas: &[f64; 16],
     t: &[f64; 7680],
     res: &mut [u8],
 ) -> usize
-    ensures { WrittenBytes path loops counts.now areas.now t.now res.old res.new result }
+    ensures { WrittenBytes face.path face.loops counts.now areas.now t.now res.old res.new result }
 {
-    write_loops(path, loops, counts, areas, t, res)
+    write_loops(face, counts, areas, t, res)
 }
 
-// The face record is closed into the front of the lent bytes, or refused; refused, the lent bytes
-// keep their values. The first two clauses say what is returned and what the lent bytes are then, by
+// The face record is closed into the front of the lent bytes, and the length of the result record
+// answered, or it is refused; refused, the lent bytes keep their values. The first two clauses say what is returned and what the lent bytes are then, by
 // the definition of the whole call: demand 2, where that definition is what the Rust computes. The next
 // two are the demands 1 and 3 of the pair and the bytes, 3 wherever the holes lie (02, N4), then what
 // 02, N2 adds of whole surfaces. The last goes beyond 01: every real of a result is finite and at most
 // 10^24 in size, as 02, N9 asks of results. The tables are those of version 1: a strip of 1,024 corners
 // and 512 points of holes, and 16 loops.
-pub fn close_face(record: &[u8], res: &mut [u8]) -> Answer
-    ensures value { result ≡ answer_of (judge (length res.old) «record».now) }
+pub fn close_face(record: &[u8], res: &mut [u8]) -> Result<usize, Refusal>
+    ensures value { Tells result (judge (length res.old) «record».now) }
     ensures res_after { res.new ≡ lent_after (judge (length res.old) «record».now) res.old }
     ensures demand1 { Demand1 «record».now res.old (code_of result) (value_of result) res.new }
     ensures band_demand { BandDemand «record».now (code_of result) res.new }
@@ -79,24 +62,14 @@ pub fn close_face(record: &[u8], res: &mut [u8]) -> Answer
 {
     let limits = version1();
     if res.len() < limits.result {
-        return Answer::Refused {
-            number: 1,
-            place: limits.result,
-        };
+        return Err(Refusal::TooFewLent(limits.result));
     }
-    if let Place::At(place) = wrong_header(record) {
-        return Answer::Refused { number: 2, place };
+    if let Some(place) = wrong_header(record) {
+        return Err(Refusal::WrongHeader(place));
     }
     let mut t = [0.0; 7680];
     let mut counts = [0; 16];
     let mut areas = [0.0; 16];
-    match fill_face(record, &mut t, &mut counts, &mut areas) {
-        Filled::Refused { number, place } => Answer::Refused {
-            number: number,
-            place: place,
-        },
-        Filled::Face { path, loops } => {
-            Answer::Closed(write_filled(path, loops, &counts, &areas, &t, res))
-        }
-    }
+    let filled = fill_face(record, &mut t, &mut counts, &mut areas)?;
+    Ok(write_filled(filled, &counts, &areas, &t, res))
 }

@@ -2,12 +2,13 @@
 ghost use Rattle.std.specs.Prelude.{◌≡◌, length};
 ghost use Rattle.records.specs.Lent.{filled_if};
 ghost use Rattle.records.specs.Result.{encode};
-ghost use Rattle.results.specs.Written.{path_of, table_result, length_of, size_of, written_if, result_fits};
+ghost use Rattle.std.specs.Bool.{then_some};
+ghost use Rattle.results.specs.Written.{path_of, table_result, length_of, size_of, result_fits};
 ghost use Rattle.tables.specs.Rows.{rows};
-ghost use Rattle.compared.specs.Records.{written_of, path_from, room_of};
+ghost use Rattle.compared.specs.Records.{counted, path_from, room_of};
 
 use super::of_records::Counted;
-use results::{Path, Size, Written};
+use results::{Path, RecordSize};
 
 // What a record takes: `holds` is 0 where a record cannot hold the counts, else 1.
 #[repr(C)]
@@ -28,29 +29,20 @@ fn path_from(number: u32) -> Path
     }
 }
 
-fn room_of(size: Size) -> Room
+fn room_of(size: Option<RecordSize>) -> Room
     ensures { result ≡ room_of size }
 {
     match size {
-        Size::Takes { corners, length } => Room {
+        Some(RecordSize { corners, length }) => Room {
             holds: 1,
             corners,
             length,
         },
-        Size::TooLarge => Room {
+        None => Room {
             holds: 0,
             corners: 0,
             length: 0,
         },
-    }
-}
-
-fn written_of(written: Written) -> Counted
-    ensures { result ≡ written_of written }
-{
-    match written {
-        Written::Length(number) => Counted { done: 1, number },
-        Written::Refused => Counted { done: 0, number: 0 },
     }
 }
 
@@ -69,8 +61,8 @@ pub extern "C" fn compared_write_result(
     t: &[f64],
     out: &mut [u8],
 ) -> Counted
-    ensures value { result ≡ written_of (written_if (result_fits counts.now (length areas.now) (length (rows t.now)) (length out.old)) (length_of counts.now)) }
+    ensures value { result ≡ counted (then_some (result_fits counts.now (length areas.now) (length (rows t.now)) (length out.old)) (length_of counts.now)) }
     ensures out_after { out.new ≡ filled_if (result_fits counts.now (length areas.now) (length (rows t.now)) (length out.old)) (encode (table_result (path_of (path_from path)) counts.now areas.now (rows t.now))) out.old }
 {
-    written_of(results::write_result(path_from(path), counts, areas, t, out))
+    Counted::from(results::write_result(path_from(path), counts, areas, t, out))
 }

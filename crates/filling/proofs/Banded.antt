@@ -34,7 +34,7 @@ use Rattle.records.specs.Bytes.{◌=?◌}
 use Rattle.lists.specs.Elements.{sum}
 use Rattle.records.specs.Face as Record
 use Rattle.records.specs.Limits.{version1}
-use Rattle.records.specs.Refusals.{Verdict, passes, refuses, verdict}
+use Rattle.records.specs.Refusals.{passes, refuses, verdict}
 use Rattle.records.specs.Result.{corners_of, count_of, area_of}
 use Rattle.results.specs.declared.Path.TheVariants.{Wrapped}
 use Rattle.call.specs.Face.{wrapping, setting_in, given_in}
@@ -46,8 +46,9 @@ use Rattle.call.proofs.Strips.{strip-most}
 use Rattle.holes.specs.Others.{others}
 use Rattle.holes.proofs.Others.{map-others}
 use Rattle.filling.specs.Band.{band_closing, BandIs, BandFace}
-use Rattle.filling.specs.Filled.{HoldsResult, FillsTo, path_taken, filled_by}
-use Rattle.filling.specs.declared.face.Filled.TheVariants.{Face, Refused}
+use Rattle.filling.specs.Filled.{HoldsResult, FillsTo, path_taken}
+use Rattle.std.specs.Prelude.{Ok, Err}
+use Rattle.records.specs.declared.refusal.Refusal.TheVariants.{LongStrip}
 use Rattle.filling.proofs.Others.{total-length, flat_pieces}
 use Rattle.filling.proofs.Taken.{hole_lists, hole-counts, holes-two_less, points-few, few}
 
@@ -179,11 +180,12 @@ module _ (s : List ℕ) (corners : List Float) (given : List ℕ) (loops : List 
             (omega arith, omega arith)
 
     pub filled_long : (c : TooMany) (counts : List ℕ) (areas : List Float) → r ≡ Err c
-        → FillsTo (verdict (strip_conditions version1) s) s (Refused 12 c.corners) counts areas t
+        → FillsTo (verdict (strip_conditions version1) s) s (Err (LongStrip c.corners)) counts areas t
     filled_long c counts areas e =
         let l = too_long c e in
         record {
-          answer = ap (Refused 12) l.1 ∙ sym (ap (λ (v : Verdict). filled_by v s) (long_refuses l.0));
+          answer = ap (refuses 12) l.1 ∙ sym (long_refuses l.0);
+          face = tt;
           holds = λ p. absurd (passes≢refuses (sym (long_refuses l.0) ∙ p));
         }
 
@@ -222,7 +224,7 @@ module _ (s : List ℕ) (corners : List Float) (given : List ℕ) (loops : List 
     pub filled_short : (t' : List Float) (counts counts' : List ℕ) (areas areas' : List Float) (m : ℕ) → length (set counts 0 n) ≡ 16 → length (set areas 0 area) ≡ 16
         → rows t' ≡ placed n (rows held) (rows t) → counts' ≡ placed 1 (others a b given) (set counts 0 n)
         → areas' ≡ placed 1 (others a b (map signed_area (pieces given (rows corners)))) (set areas 0 area) → m ≡ length given - 1
-        → FillsTo (verdict (strip_conditions version1) s) s (Face Wrapped m) counts' areas' t'
+        → FillsTo (verdict (strip_conditions version1) s) s (Ok (record { path = Wrapped; loops = m })) counts' areas' t'
     filled_short t' counts counts' areas areas' m in_counts in-areas put-rows put-counts put-areas m_is =
         let two-less = holes-two_less s corners given loops frame surface options sense a b f in
         let lengths = ap length picked ∙ length-map g.holes length in
@@ -244,7 +246,8 @@ module _ (s : List ℕ) (corners : List Float) (given : List ℕ) (loops : List 
         } in
         let one_more : m ≡ length (result_loops s) = m_is ∙ less (length given) (length g.holes) two-less ∙ sym (ap length result_is ∙ many) in
         record {
-          answer = (λ i. Face (sym path_is i) (one_more i)) ∙ sym (ap (λ (v : Verdict). filled_by v s) (short_passes fits.0));
+          answer = sym (short_passes fits.0);
+          face = λ i. record { path = sym path_is i; loops = one_more i };
           holds = λ p. subst (λ (ls : List ResultLoop). HoldsResult ls (take (length ls) counts') areas' t') (sym result_is) holds;
         }
       where

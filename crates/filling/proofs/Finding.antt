@@ -28,9 +28,8 @@ use Rattle.records.specs.Face.{counts, corners_in}
 use Rattle.records.specs.Limits.{version1}
 use Rattle.records.specs.Refusals.{at, first_where}
 use Rattle.records.specs.Refusals as Sought
-use Rattle.records.proofs.Search.{nowhere≢at}
-use Rattle.records.specs.declared.check.Place.{Place}
-use Rattle.records.specs.declared.check.Place.TheVariants.{Nowhere, At}
+use Rattle.std.specs.Prelude.{Option, Some, None}
+use Rattle.std.specs.Option.{unwrap_or}
 use Rattle.call.specs.Face.{frame_in, surface_in, options_in, sense_in, wrapping, wraps_in}
 use Rattle.loop_records.specs.Loops.{records_from}
 use Rattle.call.specs.Later.{wraps_at}
@@ -38,12 +37,6 @@ use Rattle.measuring.specs.LastWhere.{last_where}
 use Rattle.holes.specs.Others.{others}
 use Rattle.filling.specs.Band.{BandFace}
 use Rattle.filling.proofs.TwoRings.{some_first, some_last}
-
-pub found_at : (p : Place) (n : ℕ) → p ≡ At n → (k : ℕ) → place_of p ≡ at k → n ≡ k
-found_at p n e k f = let g : at n ≡ at k = sym (ap place_of e) ∙ f in cc
-
-pub found_none : (p : Place) → p ≡ Nowhere → (k : ℕ) → place_of p ≡ at k → 0 ≡ k
-found_none p e k f = absurd (nowhere≢at (sym (ap place_of e) ∙ f))
 
 negative : (z : ℤ) → lt_z z (pos 0) ≡ falls z
 negative (pos n) = le-ltb n 0 (omega arith)
@@ -58,15 +51,15 @@ areas-put a b m m' dst dst' e put = put ∙ ap (λ (x : List Float). placed 1 (o
 
 -- ---- both rings are found
 
-number_found : (p : Place) (q : Sought.Place) (n : ℕ) → place_of p ≡ q → (q ≡ Sought.nowhere → ⊥) → ((k : ℕ) → place_of p ≡ at k → n ≡ k) → q ≡ at n
-number_found Nowhere q n e some is = absurd (some (sym e))
-number_found (At k) q n e some is = sym e ∙ ap at (sym (is k refl))
+number_found : (p : Option ℕ) (q : Sought.Place) (n : ℕ) → place_of p ≡ q → (q ≡ Sought.nowhere → ⊥) → n ≡ unwrap_or p 0 → q ≡ at n
+number_found None q n e some is = absurd (some (sym e))
+number_found (Some k) q n e some is = sym e ∙ ap at (sym is)
 
-pub face_of_lem : (s : List ℕ) (corners : List Float) (given : List ℕ) (loops : List LoopRecord) (wraps : List ℤ) (frame : Frame) (surface : Surface) (options : Resolved) (sense : Bool) (p q : Place) (a b : ℕ)
+pub face_of_lem : (s : List ℕ) (corners : List Float) (given : List ℕ) (loops : List LoopRecord) (wraps : List ℤ) (frame : Frame) (surface : Surface) (options : Resolved) (sense : Bool) (p q : Option ℕ) (a b : ℕ)
     → Accepted version1 s → wrapping s ≡ 2 → given ≡ counts s → rows corners ≡ corners_in s → loops ≡ placed 0 (records_from (u_period surface) 0 (pieces given (rows corners))) (replicate 16 no_loop)
     → wraps ≡ wraps_in s → surface ≡ surface_in s → frame ≡ frame_in s → options ≡ options_in s → sense ≡ sense_in s
-    → place_of p ≡ last_where (length wraps) (wraps_at wraps) → ((k : ℕ) → place_of p ≡ at k → a ≡ k)
-    → place_of q ≡ first_where (length wraps) (wraps_at wraps) → ((k : ℕ) → place_of q ≡ at k → b ≡ k)
+    → place_of p ≡ last_where (length wraps) (wraps_at wraps) → a ≡ unwrap_or p 0
+    → place_of q ≡ first_where (length wraps) (wraps_at wraps) → b ≡ unwrap_or q 0
     → BandFace s corners given loops frame surface options sense a b
 face_of_lem s corners given loops wraps frame surface options sense p q a b acc two given_is corners_are loops_are wraps_are surface_is frame_is options_are sense_is p_is a_is q_is b_is = record {
   accepted = acc;

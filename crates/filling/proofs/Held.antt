@@ -15,7 +15,7 @@ use Rattle.records.specs.Refusals.{passes}
 use Rattle.records.specs.Result.{Loop, corners_of, count_of, area_of}
 use Rattle.results.specs.declared.Path.{Path}
 use Rattle.call.specs.Paths.{ResultLoop, result_loops}
-use Rattle.filling.specs.declared.face.Filled.TheVariants.{Face}
+use Rattle.std.specs.Prelude.{Ok}
 use Rattle.filling.specs.Filled.{HoldsResult, path_taken, FillsTo}
 
 pub counts_together : {C : Type 0} (ls : List (Loop C)) → sum (map count_of ls) ≡ length (corners_of ls)
@@ -45,8 +45,9 @@ set_front x (y ∷ l) h = sym (placed-fits 0 (x ∷ []) (y ∷ l) h)
 
 -- a face that is closed
 pub filled_by_lem : (s : List ℕ) (path : Path) (ls : List ResultLoop) (n : ℕ) (counts : List ℕ) (areas t : List Float) → path ≡ path_taken s → ls ≡ result_loops s → n ≡ length ls
-    → HoldsResult ls (take (length ls) counts) areas t → FillsTo passes s (Face path n) counts areas t
+    → HoldsResult ls (take (length ls) counts) areas t → FillsTo passes s (Ok (record { path = path; loops = n })) counts areas t
 filled_by_lem s path ls n counts areas t path_is ls_is n_is h = record {
-  answer = λ i. Face (path_is i) ((n_is ∙ ap length ls_is) i);
+  answer = refl;
+  face = λ i. record { path = path_is i; loops = (n_is ∙ ap length ls_is) i };
   holds = λ e. subst (λ (k : List ResultLoop). HoldsResult k (take (length k) counts) areas t) ls_is h;
 }

@@ -38,12 +38,12 @@ use Rattle.measuring.proofs.Heads.{frame_read, surface_read, options_read}
 use Rattle.call.proofs.Judged.{wrapping_in}
 use Rattle.measuring.proofs.Measured.{wraps_shown, areas_shown}
 use Rattle.loop_records.proofs.Recorded.{read_out}
-use Rattle.filling.specs.declared.face.Filled.{Filled}
-use Rattle.filling.specs.declared.face.Filled.TheVariants.{Refused}
-use Rattle.filling.specs.declared.verdict.Verdict.{Verdict as Found}
-use Rattle.filling.specs.declared.verdict.Verdict.TheVariants.{Passes, Refuses}
-use Rattle.filling.specs.Filled.{filled_by, FillsTo}
-use Rattle.filling.specs.Stages.{ReadAs, verdict_of}
+use Rattle.std.specs.Prelude.{Result, Err}
+use Rattle.records.specs.declared.refusal.Refusal.{Refusal}
+use Rattle.records.specs.Answers.{refusal_number, refusal_place}
+use Rattle.filling.specs.declared.face.FilledFace.{FilledFace}
+use Rattle.filling.specs.Filled.{FillsTo}
+use Rattle.filling.specs.Stages.{ReadAs}
 
 -- ---- conditions behind others
 
@@ -69,27 +69,27 @@ module _ (s : List ℕ) (ds : List Condition) where
       by_place (at k) h ih = absurd (let z : ◌≡◌ {A = ℕ} 0 1 = cc in omega arith)
 
 -- a refusal is filled so, whatever the lent tables hold
-pub refused_by : (v : Verdict) (s : List ℕ) (n p : ℕ) → v ≡ refuses n p → (counts : List ℕ) (areas t : List Float) → FillsTo v s (Refused n p) counts areas t
-refused_by v s n p e counts areas t = record {
-  answer = sym (ap (λ (w : Verdict). filled_by w s) e);
-  holds = λ f. absurd (let z : ◌≡◌ {A = ℕ} 0 1 = cc in omega arith);
+pub refused_by : (v : Verdict) (s : List ℕ) (r : Refusal) → refuses (refusal_number r) (refusal_place r) ≡ v → (counts : List ℕ) (areas t : List Float)
+    → FillsTo v s (Err r) counts areas t
+refused_by v s r e counts areas t = record {
+  answer = e;
+  face = tt;
+  holds = λ f. let d : refuses (refusal_number r) (refusal_place r) ≡ passes = e ∙ f in absurd (let z : ◌≡◌ {A = ℕ} 0 1 = cc in omega arith);
 }
 
--- ---- cs are judged first, as `found` says
+-- ---- cs are judged first
 
-module _ (s : List ℕ) (cs ds : List Condition) (found : Found) (found_is : verdict_of found ≡ verdict cs s) where
-  pub refused_as : (n p : ℕ) → found ≡ Refuses n p → (counts : List ℕ) (areas t : List Float) → FillsTo (verdict (cs ++ ds) s) s (Refused n p) counts areas t
-  refused_as n p e counts areas t = refused_by _ s n p (first_refuse s ds cs n p (sym found_is ∙ ap verdict_of e)) counts areas t
+module _ (s : List ℕ) (cs ds : List Condition) where
+  pub refused_as : (r : Refusal) → refuses (refusal_number r) (refusal_place r) ≡ verdict cs s → (counts : List ℕ) (areas t : List Float)
+      → FillsTo (verdict (cs ++ ds) s) s (Err r) counts areas t
+  refused_as r e counts areas t = refused_by _ s r (sym (first_refuse s ds cs _ _ (sym e))) counts areas t
 
-  module _ (e : found ≡ Passes) where
-    pub passed_as : verdict cs s ≡ passes
-    passed_as = sym found_is ∙ ap verdict_of e
+  pub filled_as : passes ≡ verdict cs s → (r : Result FilledFace Refusal) (counts : List ℕ) (areas t : List Float) → FillsTo (verdict ds s) s r counts areas t
+      → FillsTo (verdict (cs ++ ds) s) s r counts areas t
+  filled_as e r counts areas t = subst (λ (v : Verdict). FillsTo v s r counts areas t) (sym (first_pass s ds cs (sym e)))
 
-    pub filled_as : (r : Filled) (counts : List ℕ) (areas t : List Float) → FillsTo (verdict ds s) s r counts areas t → FillsTo (verdict (cs ++ ds) s) s r counts areas t
-    filled_as r counts areas t = subst (λ (v : Verdict). FillsTo v s r counts areas t) (sym (first_pass s ds cs passed_as))
-
-pub accepted_as : (s : List ℕ) (found : Found) → verdict_of found ≡ verdict (record_conditions version1) s → found ≡ Passes → Accepted version1 s
-accepted_as s found found_is e = (accepted_exactly s version1).0 (sym found_is ∙ ap verdict_of e)
+pub accepted_as : (s : List ℕ) → passes ≡ verdict (record_conditions version1) s → Accepted version1 s
+accepted_as s e = (accepted_exactly s version1).0 (sym e)
 
 -- ---- the three paths
 
@@ -132,7 +132,7 @@ module _ (s : List ℕ) (a : Accepted version1 s) (head : List Float) (counts : 
   unfolding sense_in
   sense_in_lem sense sense_is = ap (λ (k : ℕ). k =? 1) sense_is
 
-  module _ (r : Filled) (counts' : List ℕ) (areas' t' : List Float) (f : FillsTo passes s r counts' areas' t') where
+  module _ (r : Result FilledFace Refusal) (counts' : List ℕ) (areas' t' : List Float) (f : FillsTo passes s r counts' areas' t') where
     unwrapped : wrapping s ≡ 0 → FillsTo (verdict (strip_conditions version1) s) s r counts' areas' t'
     unwrapped e = subst (λ (v : Verdict). FillsTo v s r counts' areas' t') (no_strip (λ two. omega arith)) f
 
@@ -146,7 +146,7 @@ module _ (s : List ℕ) (a : Accepted version1 s) (head : List Float) (counts : 
     pub none-wraps : n ≡ 0 → wrapping s ≡ 0
     none-wraps e = wrap_many ∙ e
 
-    pub closed_filled : n ≡ 0 → (r : Filled) (counts' : List ℕ) (areas' t' : List Float) → FillsTo passes s r counts' areas' t'
+    pub closed_filled : n ≡ 0 → (r : Result FilledFace Refusal) (counts' : List ℕ) (areas' t' : List Float) → FillsTo passes s r counts' areas' t'
         → FillsTo (verdict (strip_conditions version1) s) s r counts' areas' t'
     closed_filled e r counts' areas' t' f = unwrapped r counts' areas' t' f (none-wraps e)
 

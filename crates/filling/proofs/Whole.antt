@@ -22,7 +22,7 @@ use Rattle.records.specs.Result.{corners_of}
 use Rattle.results.specs.declared.Path.TheVariants.{Whole}
 use Rattle.call.specs.Face.{surface_in, frame_in, options_in}
 use Rattle.call.specs.Paths.{ResultLoop, loop_of, whole_loop}
-use Rattle.filling.specs.declared.face.Filled.TheVariants.{Face}
+use Rattle.std.specs.Prelude.{Ok}
 use Rattle.filling.specs.Filled.{FillsTo}
 use Rattle.filling.proofs.Chosen.{takes_whole, path_whole}
 use Rattle.filling.proofs.Held.{held_in_front, set_front, filled_by_lem}
@@ -42,7 +42,7 @@ module _ (s : List ℕ) (bare : loops s ≡ 0) (surface : Surface) (frame : Fram
 
   pub whole_filled : (c₀ c : List ℕ) (a₀ a t₀ t : List Float) (n : ℕ) (area : Float) → n ≡ length (whole_corners surface options) → area ≡ area_within (length (rows t₀)) surface options
       → c ≡ set c₀ 0 n → a ≡ set a₀ 0 area → rows t ≡ placed 0 (whole_rows surface frame options) (rows t₀)
-      → length c₀ ≡ 16 → length a₀ ≡ 16 → length t₀ ≡ 7680 → FillsTo passes s (Face Whole 1) c a t
+      → length c₀ ≡ 16 → length a₀ ≡ 16 → length t₀ ≡ 7680 → FillsTo passes s (Ok (record { path = Whole; loops = 1 })) c a t
   unfolding corners_of
   whole_filled c₀ c a₀ a t₀ t n area n_is area_is c_is a_is t_is c-room a-room t-room =
       let few = few-corners surface options in

@@ -1,24 +1,18 @@
 -- What filling a face answers, and what the lent table, counts and areas then hold: the result outside bytes.
-use Rattle.std.specs.Prelude.{ℕ, ◌≡◌, cond, List, map, Float, length, take}
+use Rattle.std.specs.Prelude.{ℕ, ◌≡◌, cond, List, map, Float, length, take, Result, IfOk}
 use Rattle.tables.specs.Rows.{rows}
 use Rattle.records.specs.Bytes.{◌=?◌}
 use Rattle.lists.specs.Elements.{sum}
 use Rattle.records.specs.Face.{loops}
-use Rattle.records.specs.declared.read.Read.{Read}
-use Rattle.records.specs.declared.read.Read.TheVariants.{Count, Refused as Unread}
-use Rattle.records.specs.Refusals.{Verdict, passes, refuses}
+use Rattle.records.specs.declared.refusal.Refusal.{Refusal}
+use Rattle.records.specs.Answers.{verdict_of}
+use Rattle.records.specs.Refusals.{Verdict, passes}
 use Rattle.records.specs.Result.{corners_of, count_of, area_of}
 use Rattle.results.specs.declared.Path.{Path}
 use Rattle.results.specs.declared.Path.TheVariants.{Closed, Wrapped, Whole}
 use Rattle.call.specs.Face.{wrapping}
 use Rattle.call.specs.Paths.{ResultLoop, result_loops}
-use Rattle.filling.specs.declared.face.Filled.{Filled}
-use Rattle.filling.specs.declared.face.Filled.TheVariants.{Face, Refused}
-
--- how many values were read: none where something was too short
-abbrev pub read_many : Read → ℕ
-read_many (Count n) = n
-read_many Unread = 0
+use Rattle.filling.specs.declared.face.FilledFace.{FilledFace}
 
 -- the loops of a result, outer loop first: one count and one area each, and the corners of all in the front of a table
 pub record HoldsResult (ls : List ResultLoop) (counts : List ℕ) (areas t : List Float) : Type 0 where
@@ -30,13 +24,13 @@ pub record HoldsResult (ls : List ResultLoop) (counts : List ℕ) (areas t : Lis
 unfoldable pub path_taken : List ℕ → Path
 path_taken s = cond (loops s =? 0) Whole (cond (wrapping s =? 0) Closed Wrapped)
 
--- the path and how many loops the result has, or the refusal and its place
-abbrev pub filled_by : Verdict → List ℕ → Filled
-filled_by passes s = Face (path_taken s) (length (result_loops s))
-filled_by (refuses number place) s = Refused number place
+-- the path and how many loops the result has
+abbrev pub filled_by : List ℕ → FilledFace
+filled_by s = record { path = path_taken s; loops = length (result_loops s) }
 
--- v is what the conditions say of the record s. Nothing is said of what stands behind the result, nor, where the face is refused, of what
--- was lent.
-pub record FillsTo (v : Verdict) (s : List ℕ) (r : Filled) (counts : List ℕ) (areas t : List Float) : Type 0 where
-  pub answer : r ≡ filled_by v s
+-- v is what the conditions say of the record s: so it is answered, by the number of a refusal and its place. Nothing is said of what stands
+-- behind the result, nor, where the face is refused, of what was lent.
+pub record FillsTo (v : Verdict) (s : List ℕ) (r : Result FilledFace Refusal) (counts : List ℕ) (areas t : List Float) : Type 0 where
+  pub answer : verdict_of r ≡ v
+  pub face : IfOk r (λ f. f ≡ filled_by s)
   pub holds : v ≡ passes → HoldsResult (result_loops s) (take (length (result_loops s)) counts) areas t

@@ -5,20 +5,14 @@ use Rattle.tables.specs.Corners.{Corners}
 use Rattle.tables.specs.Rows.{rows}
 use Rattle.records.specs.Face as Face
 use Rattle.records.specs.Face.{corners_in}
-use Rattle.records.specs.Refusals.{Verdict, passes, refuses, refuse_at}
+use Rattle.records.specs.Refusals.{Verdict, passes, refuse_at}
 use Rattle.call.specs.Later.{open_among, one_among, many_among, open_kind}
-use Rattle.filling.specs.declared.verdict.Verdict.{Verdict as Found}
-use Rattle.filling.specs.declared.verdict.Verdict.TheVariants.{Passes, Refuses}
 
 -- the face record s, as it is read
 pub record ReadAs (s : List ℕ) (head : List Float) (counts : List ℕ) (t : List Float) : Type 0 where
   pub head_is : head ≡ Face.head s
   pub counts_are : counts ≡ Face.counts s
   pub corners_are : rows t ≡ corners_in s
-
-abbrev pub verdict_of : Found → Verdict
-verdict_of Passes = passes
-verdict_of (Refuses n p) = refuses n p
 
 -- the refusals 8 to 11 of a face of this kind with these loops and their wraps, the first that holds
 unfoldable pub rings_verdict : ℕ → List (Corners Vec3) → List ℤ → Verdict

@@ -12,26 +12,29 @@ ghost use Rattle.call.specs.Face.{surface_in, wraps_in};
 ghost use Rattle.call.specs.Paths.{signed_area};
 ghost use Rattle.call.specs.Later.{ring_conditions, strip_conditions, later_conditions};
 ghost use Rattle.loop_records.specs.Loops.{records_from};
-ghost use Rattle.filling.specs.Filled.{read_many, FillsTo};
+ghost use Rattle.filling.specs.Filled.{FillsTo};
 ghost use Rattle.filling.specs.Stages.{ReadAs};
 
 use super::ring_refusals::check_rings;
-use super::verdict::{Verdict, check_record};
 use super::{fill_band, fill_closed, fill_whole};
 use loop_records::measure::measure_loops;
 use loop_records::{LoopRecord, areas_of, wraps_of};
 use measuring::head::{frame_of, options_of, surface_of};
 use measuring::refusals::wrapping_count;
-use records::read::{Read, kind, read_corners, read_counts, read_head, segments, sense};
+use records::check::check;
+use records::limits::version1;
+use records::read::{kind, read_corners, read_counts, read_head, segments, sense};
+use records::refusal::Refusal;
 use results::Path;
 use surfaces::surface::Surface;
 use tables::slices::at;
 
+// What a face was filled as.
 #[derive(Clone, Copy)]
-pub enum Filled {
-    // The path, and how many loops the result has.
-    Face { path: Path, loops: usize },
-    Refused { number: u8, place: usize },
+pub struct FilledFace {
+    pub path: Path,
+    // How many loops the result has.
+    pub loops: usize,
 }
 
 // The path: whole where there are no loops, closed where none wraps, else wrapped. The closed one does
@@ -49,7 +52,7 @@ fn fill_path(
     t: &mut [f64; 7680],
     counts: &mut [usize; 16],
     areas: &mut [f64; 16],
-) -> Filled
+) -> Result<FilledFace, Refusal>
     ensures { Accepted version1 face.now → ReadAs face.now head.now given.now corners.old
         → loops.now ≡ placed 0 (records_from (u_period surface) 0 (pieces given.now (rows corners.old))) (replicate 16 no_loop)
         → wraps.now ≡ wraps_in face.now → measured.old ≡ map signed_area (pieces given.now (rows corners.old))
@@ -58,10 +61,10 @@ fn fill_path(
 {
     let options = options_of(head, segments(face));
     if given.len() == 0 {
-        return fill_whole(surface, frame_of(head), options, t, counts, areas);
+        return Ok(fill_whole(surface, frame_of(head), options, t, counts, areas));
     }
     if wrapping_count(wraps) == 0 {
-        return fill_closed(corners, given, measured, boxes, surface, t, counts, areas);
+        return Ok(fill_closed(corners, given, measured, boxes, surface, t, counts, areas));
     }
     fill_band(
         corners,
@@ -79,16 +82,6 @@ fn fill_path(
     )
 }
 
-// How many values were read: none where something was too short.
-fn read_many(read: Read) -> usize
-    ensures { result ≡ read_many read }
-{
-    match read {
-        Read::Count(n) => n,
-        Read::Refused => 0,
-    }
-}
-
 // A record that the refusals 2 to 7 let pass: it is read, its loops are measured, the refusals 8 to 11
 // tested, and its path taken, which may refuse by 12.
 fn fill_record(
@@ -96,7 +89,7 @@ fn fill_record(
     t: &mut [f64; 7680],
     counts: &mut [usize; 16],
     areas: &mut [f64; 16],
-) -> Filled
+) -> Result<FilledFace, Refusal>
     ensures { Accepted version1 face.now → FillsTo (verdict (later_conditions version1) face.now) face.now result counts.new areas.new t.new }
 {
     let mut head = [0.0; 13];
@@ -104,16 +97,13 @@ fn fill_record(
     let mut corners = [0.0; 2560];
     let mut boxes = [0.0; 64];
     read_head(face, &mut head);
-    let l = read_many(read_counts(face, &mut given));
-    let e = 5 * read_many(read_corners(face, &mut corners));
+    let l = read_counts(face, &mut given).unwrap_or(0);
+    let e = 5 * read_corners(face, &mut corners).unwrap_or(0);
     let surface = surface_of(kind(face), at(&head, 9), at(&head, 10));
     let loops = measure_loops(&corners[..e], &given[..l], surface.u_period());
     let wraps = wraps_of(loops);
     let mut measured = areas_of(loops);
-    let found = check_rings(kind(face), &corners[..e], &given[..l], &wraps[..l]);
-    if let Verdict::Refuses { number, place } = found {
-        return Filled::Refused { number, place };
-    }
+    check_rings(kind(face), &corners[..e], &given[..l], &wraps[..l])?;
     fill_path(
         face,
         &head,
@@ -138,11 +128,9 @@ pub fn fill_face(
     t: &mut [f64; 7680],
     counts: &mut [usize; 16],
     areas: &mut [f64; 16],
-) -> Filled
+) -> Result<FilledFace, Refusal>
     ensures { FillsTo (verdict (record_conditions version1 ++ later_conditions version1) face.now) face.now result counts.new areas.new t.new }
 {
-    if let Verdict::Refuses { number, place } = check_record(face) {
-        return Filled::Refused { number, place };
-    }
+    check(face, version1())?;
     fill_record(face, t, counts, areas)
 }

@@ -10,7 +10,7 @@ ghost use Rattle.surfaces.specs.Domains.{u_period, period_length};
 ghost use Rattle.loop_records.specs.Record.{no_loop};
 ghost use Rattle.records.specs.Accepted.{Accepted};
 ghost use Rattle.records.specs.Face.{loops as loops_of, counts as counts_of, corners_in};
-ghost use Rattle.records.specs.Refusals.{passes, verdict, at};
+ghost use Rattle.records.specs.Refusals.{passes, verdict};
 ghost use Rattle.call.specs.Face.{surface_in, frame_in, options_in, sense_in, wrapping, setting_in, given_in, wraps_in};
 ghost use Rattle.loop_records.specs.Loops.{records_from};
 ghost use Rattle.filling.specs.Filled.{FillsTo};
@@ -19,13 +19,12 @@ ghost use Rattle.bands.specs.Given.{falls};
 ghost use Rattle.bands.specs.Columns.{setting_of};
 ghost use Rattle.laying.specs.Held.{given_in as held_in};
 ghost use Rattle.holes.specs.Others.{others};
-ghost use Rattle.records.specs.Answers.{place_of};
 ghost use Rattle.records.specs.Limits.{version1};
 ghost use Rattle.call.specs.Paths.{signed_area};
 ghost use Rattle.filling.specs.Band.{BandIs, BandFace};
 
 use closed_face::face::closed_face;
-use face::Filled;
+use face::FilledFace;
 use full_domain::boundary::full_domain_count;
 use full_domain::table::full_domain_loop;
 use holes::picked::{count_holes, pick};
@@ -37,7 +36,7 @@ use loop_records::LoopRecord;
 use loop_records::ring::ring_of;
 use measuring::refusals::{first_wrapping, last_wrapping};
 use numbers::math::Frame;
-use records::check::Place;
+use records::refusal::Refusal;
 use results::Path;
 use seam::gap::Span;
 use strip::closing::{Closed, TooMany};
@@ -50,16 +49,6 @@ use wrapped_region::ordered::close_ordered;
 
 pub mod face;
 pub mod ring_refusals;
-pub mod verdict;
-
-// A store at i, and none past the end.
-fn put_count(counts: &mut [usize], i: usize, n: usize)
-    ensures { counts.new ≡ set counts.old i n }
-{
-    if i < counts.len() {
-        counts[i] = n;
-    }
-}
 
 // The whole path: a sphere or a torus that no loop trims.
 fn fill_whole(
@@ -69,14 +58,14 @@ fn fill_whole(
     t: &mut [f64; 7680],
     counts: &mut [usize; 16],
     areas: &mut [f64; 16],
-) -> Filled
+) -> FilledFace
     ensures { (s : List ℕ) → Accepted version1 s → loops_of s ≡ 0 → surface ≡ surface_in s → frame ≡ frame_in s → options ≡ options_in s
-        → FillsTo passes s result counts.new areas.new t.new }
+        → FillsTo passes s (Ok result) counts.new areas.new t.new }
 {
-    put_count(counts, 0, full_domain_count(surface, options));
+    counts[0] = full_domain_count(surface, options);
     let area = full_domain_loop(surface, frame, options, t);
     put(areas, 0, area);
-    Filled::Face {
+    FilledFace {
         path: Path::Whole,
         loops: 1,
     }
@@ -92,10 +81,10 @@ fn fill_closed(
     t: &mut [f64; 7680],
     counts: &mut [usize; 16],
     areas: &mut [f64; 16],
-) -> Filled
+) -> FilledFace
     ensures { (s : List ℕ) → Accepted version1 s → 0 < loops_of s → wrapping s ≡ 0 → surface ≡ surface_in s
         → given.now ≡ counts_of s → rows corners.old ≡ corners_in s → measured.old ≡ map signed_area (pieces given.now (rows corners.old))
-        → FillsTo passes s result counts.new areas.new t.new }
+        → FillsTo passes s (Ok result) counts.new areas.new t.new }
 {
     closed_face(
         corners,
@@ -108,19 +97,9 @@ fn fill_closed(
         counts,
         areas,
     );
-    Filled::Face {
+    FilledFace {
         path: Path::Closed,
         loops: given.len(),
-    }
-}
-
-// The number of the loop that was found; 0 where none was.
-fn number_of(place: Place) -> usize
-    ensures { (k : ℕ) → place_of place ≡ at k → result ≡ k }
-{
-    match place {
-        Place::At(k) => k,
-        Place::Nowhere => 0,
     }
 }
 
@@ -224,17 +203,7 @@ fn band_of(
     )
 }
 
-// How many loops a result has, the two rings being one of them.
-fn loops_left(given: usize) -> usize
-    ensures { result ≡ given - 1 }
-{
-    if given < 1 {
-        return 0;
-    }
-    given - 1
-}
-
-// The wrapped path: a face of which two loops wrap.
+// The wrapped path: a face of which two loops wrap. The result has one loop fewer, the two rings being one of its loops.
 fn fill_band(
     corners: &[f64],
     given: &[usize],
@@ -248,15 +217,15 @@ fn fill_band(
     t: &mut [f64; 7680],
     counts: &mut [usize; 16],
     areas: &mut [f64; 16],
-) -> Filled
+) -> Result<FilledFace, Refusal>
     ensures { (s : List ℕ) → Accepted version1 s → wrapping s ≡ 2 → given.now ≡ counts_of s → rows corners.now ≡ corners_in s
         → loops.now ≡ placed 0 (records_from (u_period surface) 0 (pieces given.now (rows corners.now))) (replicate 16 no_loop)
         → wraps.now ≡ wraps_in s → measured.now ≡ map signed_area (pieces given.now (rows corners.now)) → surface ≡ surface_in s → frame ≡ frame_in s → options ≡ options_in s → sense ≡ sense_in s
         → FillsTo (verdict (strip_conditions version1) s) s result counts.new areas.new t.new }
 {
     let mut holes = [0.0; 2560];
-    let a = number_of(last_wrapping(wraps));
-    let b = number_of(first_wrapping(wraps));
+    let a = last_wrapping(wraps).unwrap_or(0);
+    let b = first_wrapping(wraps).unwrap_or(0);
     let closing = band_of(
         corners, given, loops, a, b, frame, surface, options, sense, &mut holes, t,
     );
@@ -267,14 +236,11 @@ fn fill_band(
             pick(counts, 1, given, a, b);
             areas[0] = closed.area;
             pick(areas, 1, measured, a, b);
-            Filled::Face {
+            Ok(FilledFace {
                 path: Path::Wrapped,
-                loops: loops_left(given.len()),
-            }
+                loops: given.len().saturating_sub(1),
+            })
         }
-        Err(long) => Filled::Refused {
-            number: 12,
-            place: long.corners,
-        },
+        Err(long) => Err(Refusal::LongStrip(long.corners)),
     }
 }

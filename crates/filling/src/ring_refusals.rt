@@ -3,38 +3,27 @@
 ghost use Rattle.std.specs.Prelude.{◌≡◌};
 ghost use Rattle.lists.specs.Pieces.{pieces};
 ghost use Rattle.tables.specs.Rows.{rows};
-ghost use Rattle.filling.specs.Stages.{rings_verdict, verdict_of};
+ghost use Rattle.records.specs.Answers.{verdict_of};
+ghost use Rattle.filling.specs.Stages.{rings_verdict};
 
-use super::verdict::Verdict;
 use measuring::refusals::{many_rings, one_ring, open_ring, open_surface};
-use records::check::Place;
+use records::refusal::Refusal;
 
-pub fn check_rings(kind: u8, t: &[f64], counts: &[usize], wraps: &[i32]) -> Verdict
+#[tactic(auto, using(crate::proofs::Refused::as_many_pieces), unfolding(crate::specs::Stages::rings_verdict))]
+pub fn check_rings(kind: u8, t: &[f64], counts: &[usize], wraps: &[i32]) -> Result<(), Refusal>
     ensures { verdict_of result ≡ rings_verdict kind (pieces counts.now (rows t.now)) wraps.now }
 {
-    if let Place::At(k) = open_ring(t, counts, wraps) {
-        return Verdict::Refuses {
-            number: 8,
-            place: k,
-        };
+    if let Some(k) = open_ring(t, counts, wraps) {
+        return Err(Refusal::OpenRing(k));
     }
-    if let Place::At(k) = one_ring(wraps) {
-        return Verdict::Refuses {
-            number: 9,
-            place: k,
-        };
+    if let Some(k) = one_ring(wraps) {
+        return Err(Refusal::OneRing(k));
     }
-    if let Place::At(n) = many_rings(wraps) {
-        return Verdict::Refuses {
-            number: 10,
-            place: n,
-        };
+    if let Some(n) = many_rings(wraps) {
+        return Err(Refusal::ManyRings(n));
     }
-    if let Place::At(p) = open_surface(kind, counts.len()) {
-        return Verdict::Refuses {
-            number: 11,
-            place: p,
-        };
+    if let Some(p) = open_surface(kind, counts.len()) {
+        return Err(Refusal::OpenSurface(p));
     }
-    Verdict::Passes
+    Ok(())
 }

@@ -10,12 +10,11 @@ use lib.ListN.{length, take, drop}
 use lib.Seq.{take_at}
 use Rattle.tables.specs.Rows.{rows}
 use Rattle.tables.proofs.Rows.{rows_take}
-use Rattle.records.specs.declared.read.Read.{Read}
-use Rattle.records.specs.declared.read.Read.TheVariants.{Count}
+use Rattle.std.specs.Prelude.{Option, Some}
 use Rattle.records.specs.declared.limits.Limits.{Limits}
 use Rattle.records.specs.Accepted.{Accepted}
 use Rattle.records.specs.Face.{header_size, head_reals, loops, counts, head, points, real_place, needed, corners_in}
-use Rattle.records.specs.Lent.{filled_if, read_if, counts_there, counts_fit, head_fits, points_fit, CountsRead, HeadRead, CornersRead}
+use Rattle.records.specs.Lent.{filled_if, counts_there, counts_fit, head_fits, points_fit, CountsRead, HeadRead, CornersRead}
 use Rattle.records.proofs.Columns.{length-counts, length-head, length-corners}
 
 front_of : {A : Type 0} (fits : Bool) (w d d' : List A) (n : ℕ) → fits ≡ true → length w ≡ n → d' ≡ filled_if fits w d → take n d' ≡ w
@@ -35,19 +34,17 @@ module _ {L : Limits} (s : List ℕ) (a : Accepted L s) where
   unfolding points_fit
   corners_fit room h = rw (le-leb (needed s) (length s) (let w = a.whole in omega arith), le-leb (points s) room h)
 
-  pub head_read_back : (d d' : List Float) (r : Read) → HeadRead s d d' r → head_reals ≤ length d → take head_reals d' ≡ head s
+  pub head_read_back : (d d' : List Float) (r : Option ℕ) → HeadRead s d d' r → head_reals ≤ length d → take head_reals d' ≡ head s
   head_read_back d d' r h room = front_of _ (head s) d d' head_reals (head-fits (length d) room) (length-head s) h.is
 
-  pub counts_read_back : (d d' : List ℕ) (r : Read) → CountsRead s d d' r → loops s ≤ length d → (take (loops s) d' ≡ counts s) × (r ≡ Count (loops s))
-  unfolding read_if
+  pub counts_read_back : (d d' : List ℕ) (r : Option ℕ) → CountsRead s d d' r → loops s ≤ length d → (take (loops s) d' ≡ counts s) × (r ≡ Some (loops s))
   counts_read_back d d' r h room = (
     front_of _ (counts s) d d' (loops s) (counts_fit_lem (length d) room) (length-counts s) h.is,
     h.answer ∙ rw (counts_fit_lem (length d) room, length-counts s),
   )
 
-  pub corners_read_back : (t t' : List Float) (r : Read) → CornersRead s t t' r → points s ≤ length (rows t)
-      → (rows (take (5 * points s) t') ≡ corners_in s) × (r ≡ Count (points s))
-  unfolding read_if
+  pub corners_read_back : (t t' : List Float) (r : Option ℕ) → CornersRead s t t' r → points s ≤ length (rows t)
+      → (rows (take (5 * points s) t') ≡ corners_in s) × (r ≡ Some (points s))
   corners_read_back t t' r h room = (
     rows_take (points s) t' ∙ front_of _ (corners_in s) (rows t) (rows t') (points s) (corners_fit (length (rows t)) room) (length-corners s) h.is,
     h.answer ∙ rw (corners_fit (length (rows t)) room, length-corners s),

@@ -5,9 +5,9 @@ use mathlib.Core.Bool.{Bool, true, false, cond, not}
 use mathlib.Core.List.{List, [], ◌∷◌}
 use native.Mathlib.Numerals.{add-one}
 use native.Mathlib.Omega.{arith}
-use borrow.Author.Tests.{eq-eqb, ne_eqb, lt-ltb, le-ltb, lt-leb, le-leb}
+use borrow.Author.Tests.{eq-eqb, ne_eqb}
 use mir.Syntax.{w32}
-use mir.Val.{of_z, SFits}
+use mir.Val.{of_z, SFits, bool_byte}
 use lib.Dec.{eqb}
 use lib.IntN.{ℤ, pos, negsuc}
 use lib.ListN.{length, get_or, drop, drop_of_length-le, length-map, get_or-eq_default, get_or-map}
@@ -24,7 +24,7 @@ use Rattle.bands.specs.Given.{wraps}
 use Rattle.lists.specs.Elements.{only}
 use Rattle.records.specs.Refusals.{Place, nowhere, at, first_where}
 use Rattle.records.proofs.Search.{Seeking, seek_found, seek_end}
-use Rattle.call.specs.Later.{wraps_at, open_at, open_among, wrapping_of, one_among, many_among, open_kind}
+use Rattle.call.specs.Later.{wraps_at, open_at, open_among, wrapping_of, one_among}
 use Rattle.measuring.specs.LastWhere.{last_where}
 
 -- ---- a wrap that is not 0: the code compares bits
@@ -105,11 +105,11 @@ module _ (counts : List ℕ) (r : Corners Vec3) (ws : List ℤ) where
 -- ---- how many wrap
 
 module _ (ws : List ℤ) where
-  count-first : (w : ℤ) (l : List ℤ) → wrapping_of (w ∷ l) ≡ cond (wraps w) 1 0 + wrapping_of l
+  count-first : (w : ℤ) (l : List ℤ) → wrapping_of (w ∷ l) ≡ bool_byte (wraps w) + wrapping_of l
   unfolding wrapping_of only
   count-first w l = by_test (wraps w)
     where
-      by_test : (t : Bool) → length (cond t (w ∷ only wraps l) (only wraps l)) ≡ cond t 1 0 + length (only wraps l)
+      by_test : (t : Bool) → length (cond t (w ∷ only wraps l) (only wraps l)) ≡ bool_byte t + length (only wraps l)
       by_test true = omega arith
       by_test false = omega arith
 
@@ -117,7 +117,7 @@ module _ (ws : List ℤ) where
   unfolding wrapping_of only
   count_none = refl
 
-  one_or_none : (t : Bool) → cond t 1 0 ≤ 1
+  one_or_none : (t : Bool) → bool_byte t ≤ 1
   one_or_none true = omega arith
   one_or_none false = omega arith
 
@@ -129,7 +129,7 @@ module _ (ws : List ℤ) where
   pub counting : Counting 0 0
   counting = record { far = omega arith; few = omega arith; is = omega arith }
 
-  module _ (n i : ℕ) (c : Counting n i) (h : i < length ws) (t : Bool) (t_is : t ≡ wraps_at ws i) (b : ℕ) (b_is : b ≡ cond t 1 0) where
+  module _ (n i : ℕ) (c : Counting n i) (h : i < length ws) (t : Bool) (t_is : t ≡ wraps_at ws i) (b : ℕ) (b_is : b ≡ bool_byte t) where
     pub counting_few : b ≤ 1
     counting_few = let e = one_or_none t in omega arith
 
@@ -137,7 +137,7 @@ module _ (ws : List ℤ) where
     unfolding wraps_at
     next =
         ap wrapping_of (drop-cons ws i (pos 0) h) ∙ count-first (get_or ws i (pos 0)) (drop (suc i) ws)
-        ∙ ap (λ (m : ℕ). m + wrapping_of (drop (suc i) ws)) (ap (λ (a : Bool). cond a 1 0) (sym t_is) ∙ sym b_is)
+        ∙ ap (λ (m : ℕ). m + wrapping_of (drop (suc i) ws)) (ap bool_byte (sym t_is) ∙ sym b_is)
 
     pub counting_turn : Counting (n + b) (i + 1)
     counting_turn = record {
@@ -177,7 +177,7 @@ module _ (ws : List ℤ) where
   unfolding last_where
   falling_end k f h = let e : k ≡ 0 = omega arith in sym (f.is ∙ rw e)
 
-  -- ---- 9 and 10
+  -- ---- 9
 
   module _ (n : ℕ) (n_is : n ≡ wrapping_of ws) where
     pub one_found : n ≡ 1 → (p : Place) → p ≡ first_where (length ws) (wraps_at ws) → p ≡ one_among ws
@@ -187,26 +187,3 @@ module _ (ws : List ℤ) where
     pub not_one : (n ≡ 1 → ⊥) → nowhere ≡ one_among ws
     unfolding one_among
     not_one h = sym (rw (ne_eqb (wrapping_of ws) 1 (λ e. h (n_is ∙ e))))
-
-    pub too_many : 2 < n → at n ≡ many_among ws
-    unfolding many_among
-    too_many h = ap at n_is ∙ sym (rw (lt-ltb 2 (wrapping_of ws) (omega arith)))
-
-    pub few_enough : n ≤ 2 → nowhere ≡ many_among ws
-    unfolding many_among
-    few_enough h = sym (rw (le-ltb 2 (wrapping_of ws) (omega arith)))
-
--- ---- 11
-
-module _ (kind loops : ℕ) where
-  pub open_kind_lem : loops ≡ 0 → kind ≤ 2 → at 0 ≡ open_kind kind loops
-  unfolding open_kind
-  open_kind_lem e h = sym (rw (eq-eqb loops 0 e, le-leb kind 2 h))
-
-  pub closed-kind : loops ≡ 0 → 2 < kind → nowhere ≡ open_kind kind loops
-  unfolding open_kind
-  closed-kind e h = sym (rw (eq-eqb loops 0 e, lt-leb kind 2 h))
-
-  pub has_loops : (loops ≡ 0 → ⊥) → nowhere ≡ open_kind kind loops
-  unfolding open_kind
-  has_loops h = sym (rw (ne_eqb loops 0 h))

@@ -1,5 +1,5 @@
 // The refusals 8 to 11, from the wraps of the loops, for 8 with the loops themselves.
-ghost use Rattle.std.specs.Prelude.{◌≡◌, cond, length};
+ghost use Rattle.std.specs.Prelude.{◌≡◌, length};
 ghost use Rattle.numbers.specs.Position.{same};
 ghost use Rattle.lists.specs.Pieces.{pieces};
 ghost use Rattle.tables.specs.Corners.{positions};
@@ -10,7 +10,6 @@ ghost use Rattle.records.specs.Refusals.{first_where};
 ghost use Rattle.call.specs.Later.{wraps_at, open_at, open_among, wrapping_of, one_among, many_among, open_kind};
 ghost use Rattle.measuring.specs.LastWhere.{last_where};
 
-use records::check::Place;
 use tables::corners::{corner_at, count};
 use tables::pieces::loop_of;
 
@@ -50,23 +49,15 @@ fn open_at(t: &[f64], counts: &[usize], wraps: &[i32], k: usize) -> bool
 }
 
 // 8
-pub fn open_ring(t: &[f64], counts: &[usize], wraps: &[i32]) -> Place
+pub fn open_ring(t: &[f64], counts: &[usize], wraps: &[i32]) -> Option<usize>
     ensures { place_of result ≡ open_among (pieces counts.now (rows t.now)) wraps.now }
 {
-    let mut k = 0;
-    while k < counts.len() {
+    for k in 0..counts.len() {
         if open_at(t, counts, wraps, k) {
-            return Place::At(k);
+            return Some(k);
         }
-        k += 1;
     }
-    Place::Nowhere
-}
-
-fn one_if(t: bool) -> usize
-    ensures { result ≡ cond t 1 0 }
-{
-    if t { 1 } else { 0 }
+    None
 }
 
 // How many loops wrap.
@@ -74,69 +65,57 @@ pub fn wrapping_count(wraps: &[i32]) -> usize
     ensures { result ≡ wrapping_of wraps.now }
 {
     let mut n = 0;
-    let mut i = 0;
-    while i < wraps.len() {
-        n += one_if(wraps_at(wraps, i));
-        i += 1;
+    for i in 0..wraps.len() {
+        n += usize::from(wraps_at(wraps, i));
     }
     n
 }
 
-pub fn first_wrapping(wraps: &[i32]) -> Place
+pub fn first_wrapping(wraps: &[i32]) -> Option<usize>
     ensures { place_of result ≡ first_where (length wraps.now) (wraps_at wraps.now) }
 {
-    let mut k = 0;
-    while k < wraps.len() {
+    for k in 0..wraps.len() {
         if wraps_at(wraps, k) {
-            return Place::At(k);
+            return Some(k);
         }
-        k += 1;
     }
-    Place::Nowhere
+    None
 }
 
-pub fn last_wrapping(wraps: &[i32]) -> Place
+pub fn last_wrapping(wraps: &[i32]) -> Option<usize>
     ensures { place_of result ≡ last_where (length wraps.now) (wraps_at wraps.now) }
 {
-    let mut k = wraps.len();
-    while k > 0 {
-        k -= 1;
+    for k in (0..wraps.len()).rev() {
         if wraps_at(wraps, k) {
-            return Place::At(k);
+            return Some(k);
         }
     }
-    Place::Nowhere
+    None
 }
 
 // 9
-pub fn one_ring(wraps: &[i32]) -> Place
+pub fn one_ring(wraps: &[i32]) -> Option<usize>
     ensures { place_of result ≡ one_among wraps.now }
 {
     if wrapping_count(wraps) == 1 {
         return first_wrapping(wraps);
     }
-    Place::Nowhere
+    None
 }
 
 // 10
-pub fn many_rings(wraps: &[i32]) -> Place
+#[tactic(auto, using(records::proofs::Search::when_some), unfolding(call::specs::Later::many_among))]
+pub fn many_rings(wraps: &[i32]) -> Option<usize>
     ensures { place_of result ≡ many_among wraps.now }
 {
     let n = wrapping_count(wraps);
-    if n > 2 {
-        return Place::At(n);
-    }
-    Place::Nowhere
+    (n > 2).then_some(n)
 }
 
 // 11
-pub fn open_surface(kind: u8, loops: usize) -> Place
+#[tactic(auto, using(records::proofs::Search::when_some), unfolding(call::specs::Later::open_kind))]
+pub fn open_surface(kind: u8, loops: usize) -> Option<usize>
     ensures { place_of result ≡ open_kind kind loops }
 {
-    if loops == 0 {
-        if kind <= 2 {
-            return Place::At(0);
-        }
-    }
-    Place::Nowhere
+    (loops == 0 && kind <= 2).then_some(0)
 }

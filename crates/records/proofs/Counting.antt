@@ -6,12 +6,12 @@ use Prim.Native.Nat.{ℕ, suc, ◌+◌, ◌*◌, ◌≤◌, ◌<◌}
 use native.Mathlib.Numerals.{add-one}
 use native.Mathlib.Omega.{arith}
 use lib.ListN.{length}
-use borrow.Author.Tests.{lt-ltb, le-ltb, eq-eqb, ne_eqb, ltb-false, eqb-true, not-false}
+use borrow.Author.Tests.{lt-ltb, le-ltb, ltb-false, eqb-true, not-false}
 use Rattle.records.specs.Bytes.{◌<?◌}
 use Rattle.records.specs.Face.{header_size, loops, count, start, points, needed}
 use Rattle.records.specs.declared.limits.Limits.{Limits}
 use Rattle.records.specs.Limits.{min_points}
-use Rattle.records.specs.Refusals.{nowhere, at, first_where, wrong_byte, wrong_header, too_many_loops, ends_in_counts, too_few_points, too_many_points, wrong_length}
+use Rattle.records.specs.Refusals.{nowhere, at, first_where, wrong_byte, wrong_header, ends_in_counts, too_few_points, too_many_points, wrong_length}
 use Rattle.records.proofs.Search.{nowhere≢at, when_fails, Seeking, seek_start, seek_turn, seek_found, seek_end}
 
 start_next : (s : List ℕ) (total n k : ℕ) → total ≡ start s k → n ≡ count s k → total + n ≡ start s (k + 1)
@@ -34,36 +34,8 @@ module _ {s : List ℕ} where
   pub add_turn : {total n k : ℕ} → Adding s total k → k < loops s → n ≡ count s k → n < 65536 → Adding s (total + n) (k + 1)
   add_turn {total} {n} {k} a h e l = record { far = omega arith; is = start_next s total n k a.is e; small = let z = a.small in omega arith }
 
-  pub add-end : {total k : ℕ} → Adding s total k → loops s ≤ k → total ≡ points s
-  add-end {total} {k} a h = let e : k ≡ loops s = let z = a.far in omega arith in a.is ∙ ap (start s) e
-
--- ---- 3 and the halves of 6, where the code has the numbers l and n
-
-module _ (L : Limits) (s : List ℕ) where
-  pub many_loops : {l : ℕ} → l ≡ loops s → L.loops < l → at l ≡ too_many_loops L s
-  unfolding too_many_loops
-  many_loops e h = rw (e, lt-ltb L.loops (loops s) (omega arith))
-
-  pub few_loops : {l : ℕ} → l ≡ loops s → l ≤ L.loops → nowhere ≡ too_many_loops L s
-  unfolding too_many_loops
-  few_loops e h = rw (le-ltb L.loops (loops s) (omega arith))
-
-module _ (s : List ℕ) where
-  pub in_counts : {n : ℕ} → n ≡ header_size + 2 * loops s → length s < n → at n ≡ ends_in_counts s
-  unfolding ends_in_counts
-  in_counts e h = rw (e, lt-ltb (length s) (header_size + 2 * loops s) (omega arith))
-
-  pub past-counts : {n : ℕ} → n ≡ header_size + 2 * loops s → n ≤ length s → nowhere ≡ ends_in_counts s
-  unfolding ends_in_counts
-  past-counts e h = rw (le-ltb (length s) (header_size + 2 * loops s) (omega arith))
-
-  pub bad_length : {n : ℕ} → n ≡ needed s → (length s ≡ n → ⊥) → at n ≡ wrong_length s
-  unfolding wrong_length
-  bad_length e h = rw (e, ne_eqb (length s) (needed s) (λ q. h (q ∙ sym e)))
-
-  pub good_length : {n : ℕ} → n ≡ needed s → length s ≡ n → nowhere ≡ wrong_length s
-  unfolding wrong_length
-  good_length e h = rw (eq-eqb (length s) (needed s) (h ∙ e))
+  pub add_end : {total k : ℕ} → Adding s total k → loops s ≤ k → total ≡ points s
+  add_end {total} {k} a h = let e : k ≡ loops s = let z = a.far in omega arith in a.is ∙ ap (start s) e
 
 -- ---- what is known where a condition does not hold
 
@@ -97,9 +69,9 @@ module _ (s : List ℕ) {k : ℕ} (w : Seeking (few_at s) (loops s) k) where
   pub few_turn : {n : ℕ} → k < loops s → n ≡ count s k → min_points ≤ n → Seeking (few_at s) (loops s) (k + 1)
   few_turn h e l = seek_turn w h (le-ltb (count s k) min_points (omega arith))
 
-  pub few-end : loops s ≤ k → nowhere ≡ too_few_points s
+  pub few_end : loops s ≤ k → nowhere ≡ too_few_points s
   unfolding too_few_points
-  few-end h = seek_end w h
+  few_end h = seek_end w h
 
 -- ---- 5
 
@@ -112,9 +84,9 @@ pub record Totalling (L : Limits) (s : List ℕ) (total k : ℕ) : Type 0 where
   pub small : total ≤ 65535 * k
   pub seeking : Seeking (many_at L s) (loops s) k
 
-pub total-start : {L : Limits} {s : List ℕ} → Totalling L s 0 0
+pub total_start : {L : Limits} {s : List ℕ} → Totalling L s 0 0
 unfolding start
-total-start = record { is = refl; small = omega arith; seeking = seek_start }
+total_start = record { is = refl; small = omega arith; seeking = seek_start }
 
 module _ {L : Limits} {s : List ℕ} {total k : ℕ} (w : Totalling L s total k) where
   passed : {n : ℕ} → n ≡ count s k → total + n ≡ start s (suc k)
@@ -135,6 +107,9 @@ module _ {L : Limits} {s : List ℕ} {total k : ℕ} (w : Totalling L s total k)
         seeking = seek_turn w.seeking h (le-ltb L.points (start s (suc k)) (omega arith));
       }
 
-  pub total-end : loops s ≤ k → nowhere ≡ too_many_points L s
+  pub total_end : loops s ≤ k → nowhere ≡ too_many_points L s
   unfolding too_many_points
-  total-end h = seek_end w.seeking h
+  total_end h = seek_end w.seeking h
+
+-- what is known of a record that a condition has let pass
+pub ruleset let_pass = (header_there, counts_there_lem, all_there)

@@ -45,14 +45,14 @@ module _ {s : List ℕ} {first m k p : ℕ} where
     unfolding bad_from
     scan_end l = seek_end w.seeking l
 
-    pub head-range : j < head_reals → range (kind s) (points s) (0 + j) ≡ head_range k j
-    head-range l = let e : 0 + j ≡ j = omega arith in rw (e, w.is_kind) (range-head (kind s) (points s) j l)
+    pub head_range_at : j < head_reals → range (kind s) (points s) (0 + j) ≡ head_range k j
+    head_range_at l = let e : 0 + j ≡ j = omega arith in rw (e, w.is_kind) (range-head (kind s) (points s) j l)
 
-    pub uv-range : {n : ℕ} → n ≡ points s → j < 2 * n → range (kind s) (points s) (head_reals + j) ≡ uv_range k j
-    uv-range e l = rw w.is_kind (range-uv (kind s) (points s) j (omega arith))
+    pub uv_range_at : {n : ℕ} → n ≡ points s → j < 2 * n → range (kind s) (points s) (head_reals + j) ≡ uv_range k j
+    uv_range_at e l = rw w.is_kind (range-uv (kind s) (points s) j (omega arith))
 
-pub xyz-range : (s : List ℕ) (j n : ℕ) → n ≡ points s → range (kind s) (points s) (head_reals + 2 * n + j) ≡ xyz_range
-xyz-range s j n e = rw e (range-xyz (kind s) (points s) j)
+pub xyz_range_at : (s : List ℕ) (j n : ℕ) → n ≡ points s → range (kind s) (points s) (head_reals + 2 * n + j) ≡ xyz_range
+xyz_range_at s j n e = rw e (range-xyz (kind s) (points s) j)
 
 -- ---- the parts together
 
@@ -90,3 +90,6 @@ module _ (s : List ℕ) where
 
         pub found_none : bad_from s (head_reals + 2 * n) (3 * n) ≡ nowhere → nowhere ≡ first_bad_real s
         found_none e = sym (parts n en ∙ rw (h, l, e))
+
+-- what the parts' answers say of the whole
+pub ruleset of_parts = (inside, found_head, found_uv, found_xyz, found_none)

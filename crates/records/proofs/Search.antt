@@ -6,8 +6,7 @@ use Prim.Native.Nat.{ℕ, zero, suc, ◌+◌, ◌-◌, ◌≤◌, ◌<◌}
 use native.Mathlib.Nat.{eq-or-lt_of_le}
 use native.Mathlib.Numerals.{add-one}
 use native.Mathlib.Omega.{arith}
-use Rattle.records.specs.declared.check.Place.{Place as Found}
-use Rattle.records.specs.declared.check.Place.TheVariants.{Nowhere, At}
+use Rattle.std.specs.Bool.{then_some}
 use Rattle.records.specs.Answers.{place_of}
 use Rattle.records.specs.Refusals.{Place, nowhere, at, when, first_from, first_where}
 
@@ -176,10 +175,8 @@ module _ {test : ℕ → Bool} {n : ℕ} where
     unfolding first_from
     seek_end h = let e : n - k ≡ 0 = omega arith in sym (s.is ∙ rw e)
 
--- ---- an answer of the code, where a match has told which it is
+-- ---- an answer of the code that a test gives
 
-pub not_found : {r : Found} {p : Place} → place_of r ≡ p → r ≡ Nowhere → p ≡ nowhere
-not_found e f = sym e ∙ ap place_of f
-
-pub found : {r : Found} {p : Place} {k : ℕ} → place_of r ≡ p → r ≡ At k → p ≡ at k
-found e f = sym e ∙ ap place_of f
+pub when_some : (b : Bool) (p : ℕ) → place_of (then_some b p) ≡ when b p
+when_some true p = refl
+when_some false p = refl

@@ -1,8 +1,7 @@
 -- What reading and writing answer, and what they leave in lent slices: where something lent is too short, nothing is written.
-use Rattle.std.specs.Prelude.{◌≡◌, Bool, ◌&&◌, cond, List, ◌++◌, ℕ, ◌+◌, ◌*◌, ◌≤◌, length, drop, Float}
+use Rattle.std.specs.Prelude.{◌≡◌, Bool, ◌&&◌, cond, List, ◌++◌, ℕ, ◌+◌, ◌*◌, ◌≤◌, length, drop, Float, Option}
+use Rattle.std.specs.Bool.{then_some}
 use Rattle.tables.specs.Rows.{rows}
-use Rattle.records.specs.declared.read.Read.{Read}
-use Rattle.records.specs.declared.read.Read.TheVariants.{Count, Refused}
 use Rattle.records.specs.Bytes.{◌≤?◌}
 use Rattle.records.specs.Face.{header_size, head_reals, loops, counts, head, points, real_place, needed, corners_in}
 
@@ -15,9 +14,6 @@ unfoldable pub filled_if : {A : Type 0} → Bool → List A → List A → List 
 filled_if fits w d = cond fits (front w d) d
 
 -- ---- reading: `room` is how many values the lent slices hold
-
-unfoldable pub read_if : Bool → ℕ → Read
-read_if fits n = cond fits (Count n) Refused
 
 unfoldable pub counts_there : List ℕ → Bool
 counts_there s = header_size + 2 * loops s ≤? length s
@@ -32,8 +28,8 @@ unfoldable pub points_fit : List ℕ → ℕ → Bool
 points_fit s room = (needed s ≤? length s) && (points s ≤? room)
 
 -- what reading w into the slice d answers, and makes of it
-pub record ReadInto {A : Type 0} (fits : Bool) (w d d' : List A) (r : Read) : Type 0 where
-  pub answer : r ≡ read_if fits (length w)
+pub record ReadInto {A : Type 0} (fits : Bool) (w d d' : List A) (r : Option ℕ) : Type 0 where
+  pub answer : r ≡ then_some fits (length w)
   pub is : d' ≡ filled_if fits w d
 
 -- the points of s are there, n of them, and fit
@@ -44,11 +40,11 @@ pub record CornersRoom (s : List ℕ) (n : ℕ) (t : List Float) : Type 0 where
 
 -- what each of the three reading functions answers and leaves
 
-abbrev pub CountsRead : List ℕ → (d d' : List ℕ) → Read → Type 0
+abbrev pub CountsRead : List ℕ → (d d' : List ℕ) → Option ℕ → Type 0
 CountsRead s d = ReadInto (counts_fit s (length d)) (counts s) d
 
-abbrev pub HeadRead : List ℕ → (d d' : List Float) → Read → Type 0
+abbrev pub HeadRead : List ℕ → (d d' : List Float) → Option ℕ → Type 0
 HeadRead s d = ReadInto (head_fits s (length d)) (head s) d
 
-abbrev pub CornersRead : List ℕ → (t t' : List Float) → Read → Type 0
+abbrev pub CornersRead : List ℕ → (t t' : List Float) → Option ℕ → Type 0
 CornersRead s t t' = ReadInto (points_fit s (length (rows t))) (corners_in s) (rows t) (rows t')

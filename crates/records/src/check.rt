@@ -6,155 +6,94 @@ ghost use Rattle.records.specs.Face.{header_size, head_reals, loops, points, nee
 ghost use Rattle.records.specs.Limits.{holds, radius, second, head_range, uv_range, xyz_range};
 ghost use Rattle.records.specs.Refusals.{wrong_header, too_many_loops, ends_in_counts, too_few_points, too_many_points, wrong_length, first_bad_real, record_conditions, verdict};
 ghost use Rattle.records.specs.Parts.{bad_from};
-ghost use Rattle.records.specs.Answers.{place_of, verdict_of, number_of, place_in};
+ghost use Rattle.records.specs.Answers.{place_of, verdict_of};
 
 use super::limits::Limits;
-use super::{HEAD_REALS, HEADER_SIZE, MIN_POINTS, count_at, loops, points, real_at, wide};
-
-// Where a condition of the table holds.
-#[derive(Clone, Copy)]
-pub enum Place {
-    Nowhere,
-    At(usize),
-}
-
-// What the check says; each refusal with its place.
-#[derive(Clone, Copy)]
-pub enum Checked {
-    Passes,
-    WrongHeader(usize),
-    TooManyLoops(usize),
-    TooFewPoints(usize),
-    TooManyPoints(usize),
-    WrongLength(usize),
-    BadReal(usize),
-}
-
-impl Checked {
-    // The number of the refusal in the table, 0 where the check passes.
-    pub fn number(self) -> u8
-        ensures { result ≡ number_of (verdict_of self) }
-    {
-        match self {
-            Checked::Passes => 0,
-            Checked::WrongHeader(_) => 2,
-            Checked::TooManyLoops(_) => 3,
-            Checked::TooFewPoints(_) => 4,
-            Checked::TooManyPoints(_) => 5,
-            Checked::WrongLength(_) => 6,
-            Checked::BadReal(_) => 7,
-        }
-    }
-
-    // Its place, 0 where the check passes.
-    pub fn place(self) -> usize
-        ensures { result ≡ place_in (verdict_of self) }
-    {
-        match self {
-            Checked::Passes => 0,
-            Checked::WrongHeader(p) => p,
-            Checked::TooManyLoops(p) => p,
-            Checked::TooFewPoints(p) => p,
-            Checked::TooManyPoints(p) => p,
-            Checked::WrongLength(p) => p,
-            Checked::BadReal(p) => p,
-        }
-    }
-}
+use super::refusal::Refusal;
+use super::{HEAD_REALS, HEADER_SIZE, MIN_POINTS, count_at, loops, points, real_at};
 
 // 2, the same whatever the limits are: a step of its own
-pub fn wrong_header(face: &[u8]) -> Place
+#[tactic(auto, unfolding(crate::specs::Refusals::wrong_header, crate::specs::Refusals::wrong_byte, crate::specs::Refusals::first_from))]
+pub fn wrong_header(face: &[u8]) -> Option<usize>
     ensures { place_of result ≡ wrong_header face.now }
 {
     if face.len() < HEADER_SIZE {
-        return Place::At(face.len());
+        return Some(face.len());
     }
     if face[0] != 1 {
-        return Place::At(0);
+        return Some(0);
     }
     if face[1] > 4 {
-        return Place::At(1);
+        return Some(1);
     }
     if face[3] > 1 {
-        return Place::At(3);
+        return Some(3);
     }
     if face[4] < 1 {
-        return Place::At(4);
+        return Some(4);
     }
     if face[4] > 64 {
-        return Place::At(4);
+        return Some(4);
     }
-    Place::Nowhere
+    None
 }
 
 // 3
-fn too_many_loops(face: &[u8], limits: Limits) -> Place
+#[tactic(auto, using(crate::proofs::Search::when_some), unfolding(crate::specs::Refusals::too_many_loops))]
+fn too_many_loops(face: &[u8], limits: Limits) -> Option<usize>
     requires { header_size ≤ length face.now }
     ensures { place_of result ≡ too_many_loops limits face.now }
 {
     let l = loops(face);
-    if l > limits.loops {
-        return Place::At(l);
-    }
-    Place::Nowhere
+    (l > limits.loops).then_some(l)
 }
 
 // 6, the record ends inside its counts
-fn ends_in_counts(face: &[u8]) -> Place
+#[tactic(auto, using(crate::proofs::Search::when_some), unfolding(crate::specs::Refusals::ends_in_counts))]
+fn ends_in_counts(face: &[u8]) -> Option<usize>
     requires { header_size ≤ length face.now }
     ensures { place_of result ≡ ends_in_counts face.now }
 {
     let end = HEADER_SIZE + 2 * loops(face);
-    if face.len() < end {
-        return Place::At(end);
-    }
-    Place::Nowhere
+    (face.len() < end).then_some(end)
 }
 
 // 4
-fn too_few_points(face: &[u8]) -> Place
+fn too_few_points(face: &[u8]) -> Option<usize>
     requires { header_size + 2 * loops face.now ≤ length face.now }
     ensures { place_of result ≡ too_few_points face.now }
 {
-    let l = loops(face);
-    let mut k = 0;
-    while k < l {
+    for k in 0..loops(face) {
         if count_at(face, k) < MIN_POINTS {
-            return Place::At(k);
+            return Some(k);
         }
-        k += 1;
     }
-    Place::Nowhere
+    None
 }
 
 // 5
-fn too_many_points(face: &[u8], limits: Limits) -> Place
+fn too_many_points(face: &[u8], limits: Limits) -> Option<usize>
     requires { header_size + 2 * loops face.now ≤ length face.now }
     ensures { place_of result ≡ too_many_points limits face.now }
 {
-    let l = loops(face);
     let mut total = 0;
-    let mut k = 0;
-    while k < l {
+    for k in 0..loops(face) {
         total += count_at(face, k);
         if total > limits.points {
-            return Place::At(k);
+            return Some(k);
         }
-        k += 1;
     }
-    Place::Nowhere
+    None
 }
 
 // 6, the record's length is not the one that its counts give
-fn wrong_length(face: &[u8]) -> Place
+#[tactic(auto, using(crate::proofs::Search::when_some), unfolding(crate::specs::Refusals::wrong_length))]
+fn wrong_length(face: &[u8]) -> Option<usize>
     requires { header_size + 2 * loops face.now ≤ length face.now }
     ensures { place_of result ≡ wrong_length face.now }
 {
     let needed = HEADER_SIZE + 2 * loops(face) + 8 * (HEAD_REALS + 5 * points(face));
-    if face.len() != needed {
-        return Place::At(needed);
-    }
-    Place::Nowhere
+    (face.len() != needed).then_some(needed)
 }
 
 // ---- the ranges of the reals
@@ -162,10 +101,10 @@ fn wrong_length(face: &[u8]) -> Place
 fn between(low: f64, high: f64, x: f64) -> bool
     ensures { result ≡ (le low x && le x high) }
 {
-    if low <= x { x <= high } else { false }
+    low <= x && x <= high
 }
 
-fn radius_holds(kind: u64, x: f64) -> bool
+fn radius_holds(kind: u8, x: f64) -> bool
     ensures { result ≡ holds (radius kind) x }
 {
     if kind == 0 {
@@ -177,7 +116,7 @@ fn radius_holds(kind: u64, x: f64) -> bool
     between(0.000001, 1000000.0, x)
 }
 
-fn second_holds(kind: u64, x: f64) -> bool
+fn second_holds(kind: u8, x: f64) -> bool
     ensures { result ≡ holds (second kind) x }
 {
     if kind == 2 {
@@ -189,7 +128,7 @@ fn second_holds(kind: u64, x: f64) -> bool
     between(0.0, 0.0, x)
 }
 
-fn head_holds(kind: u64, i: usize, x: f64) -> bool
+fn head_holds(kind: u8, i: usize, x: f64) -> bool
     ensures { result ≡ holds (head_range kind i) x }
 {
     if i < 9 {
@@ -208,7 +147,7 @@ fn head_holds(kind: u64, i: usize, x: f64) -> bool
 }
 
 // Parameter real j, from 0: u and v in turn.
-fn uv_holds(kind: u64, j: usize, x: f64) -> bool
+fn uv_holds(kind: u8, j: usize, x: f64) -> bool
     ensures { result ≡ holds (uv_range kind j) x }
 {
     if j % 2 == 0 {
@@ -231,95 +170,91 @@ fn xyz_holds(x: f64) -> bool
 
 // ---- 7, in three parts: each finds its first bad real and counts from its own begin
 
-fn bad_head(face: &[u8]) -> Place
+fn bad_head(face: &[u8]) -> Option<usize>
     requires { length face.now ≡ needed face.now }
     ensures { place_of result ≡ bad_from face.now 0 head_reals }
 {
-    let kind = wide(face[1]);
+    let kind = face[1];
     let at = HEADER_SIZE + 2 * loops(face);
-    let mut i = 0;
-    while i < HEAD_REALS {
+    for i in 0..HEAD_REALS {
         if !head_holds(kind, i, real_at(face, at + 8 * i)) {
-            return Place::At(i);
+            return Some(i);
         }
-        i += 1;
     }
-    Place::Nowhere
+    None
 }
 
-fn bad_parameter(face: &[u8], n: usize) -> Place
+fn bad_parameter(face: &[u8], n: usize) -> Option<usize>
     requires { (length face.now ≡ needed face.now) × (n ≡ points face.now) }
     ensures { place_of result ≡ bad_from face.now head_reals (2 * n) }
 {
-    let kind = wide(face[1]);
+    let kind = face[1];
     let at = HEADER_SIZE + 2 * loops(face) + 8 * HEAD_REALS;
-    let mut j = 0;
-    while j < 2 * n {
+    for j in 0..2 * n {
         if !uv_holds(kind, j, real_at(face, at + 8 * j)) {
-            return Place::At(j);
+            return Some(j);
         }
-        j += 1;
     }
-    Place::Nowhere
+    None
 }
 
-fn bad_position(face: &[u8], n: usize) -> Place
+fn bad_position(face: &[u8], n: usize) -> Option<usize>
     requires { (length face.now ≡ needed face.now) × (n ≡ points face.now) }
     ensures { place_of result ≡ bad_from face.now (head_reals + 2 * n) (3 * n) }
 {
     let at = HEADER_SIZE + 2 * loops(face) + 8 * (HEAD_REALS + 2 * n);
-    let mut j = 0;
-    while j < 3 * n {
+    for j in 0..3 * n {
         if !xyz_holds(real_at(face, at + 8 * j)) {
-            return Place::At(j);
+            return Some(j);
         }
-        j += 1;
     }
-    Place::Nowhere
+    None
 }
 
-fn first_bad_real(face: &[u8]) -> Place
+#[tactic(auto, using(crate::proofs::Reals::of_parts))]
+fn first_bad_real(face: &[u8]) -> Option<usize>
     requires { length face.now ≡ needed face.now }
     ensures { place_of result ≡ first_bad_real face.now }
 {
-    if let Place::At(i) = bad_head(face) {
-        return Place::At(i);
+    if let Some(i) = bad_head(face) {
+        return Some(i);
     }
     let n = points(face);
-    if let Place::At(j) = bad_parameter(face, n) {
-        return Place::At(HEAD_REALS + j);
+    if let Some(j) = bad_parameter(face, n) {
+        return Some(HEAD_REALS + j);
     }
-    if let Place::At(j) = bad_position(face, n) {
-        return Place::At(HEAD_REALS + 2 * n + j);
+    if let Some(j) = bad_position(face, n) {
+        return Some(HEAD_REALS + 2 * n + j);
     }
-    Place::Nowhere
+    None
 }
 
 // ---- the check
 
-pub fn check(face: &[u8], limits: Limits) -> Checked
+#[tactic(auto, using(crate::proofs::Counting::let_pass), unfolding(crate::specs::Refusals::verdict))]
+pub fn check(face: &[u8], limits: Limits) -> Result<(), Refusal>
     ensures { verdict_of result ≡ verdict (record_conditions limits) face.now }
 {
-    if let Place::At(p) = wrong_header(face) {
-        return Checked::WrongHeader(p);
+    if let Some(p) = wrong_header(face) {
+        return Err(Refusal::WrongHeader(p));
     }
-    if let Place::At(l) = too_many_loops(face, limits) {
-        return Checked::TooManyLoops(l);
+    if let Some(l) = too_many_loops(face, limits) {
+        return Err(Refusal::TooManyLoops(l));
     }
-    if let Place::At(n) = ends_in_counts(face) {
-        return Checked::WrongLength(n);
+    if let Some(n) = ends_in_counts(face) {
+        return Err(Refusal::WrongLength(n));
     }
-    if let Place::At(k) = too_few_points(face) {
-        return Checked::TooFewPoints(k);
+    if let Some(k) = too_few_points(face) {
+        return Err(Refusal::TooFewPoints(k));
     }
-    if let Place::At(k) = too_many_points(face, limits) {
-        return Checked::TooManyPoints(k);
+    if let Some(k) = too_many_points(face, limits) {
+        return Err(Refusal::TooManyPoints(k));
     }
-    if let Place::At(n) = wrong_length(face) {
-        return Checked::WrongLength(n);
+    if let Some(n) = wrong_length(face) {
+        return Err(Refusal::WrongLength(n));
     }
-    if let Place::At(i) = first_bad_real(face) {
-        return Checked::BadReal(i);
+    if let Some(i) = first_bad_real(face) {
+        return Err(Refusal::BadReal(i));
     }
-    Checked::Passes
+    Ok(())
 }

@@ -10,6 +10,7 @@ use numbers::bits;
 pub mod check;
 pub mod limits;
 pub mod read;
+pub mod refusal;
 
 // The sizes of a face record's parts, and how few points a loop may have.
 const HEADER_SIZE: usize = 5;
@@ -18,22 +19,14 @@ const HEAD_REALS: usize = 13;
 
 const MIN_POINTS: usize = 3;
 
-fn wide(b: u8) -> u64
-    ensures { (result ≡ b) × (result < 256) }
-{
-    b as u64
-}
-
 // The number in the w bytes from `at` on.
 fn number_at(s: &[u8], at: usize, w: usize) -> u64
     requires { (w ≤ 8) × (at + w ≤ length s.now) }
     ensures { (result ≡ number_at w s.now at) × (result < 256 ^ w) }
 {
     let mut n = 0;
-    let mut i = w;
-    while 0 < i {
-        i -= 1;
-        n = 256 * n + wide(s[at + i]);
+    for i in (0..w).rev() {
+        n = 256 * n + u64::from(s[at + i]);
     }
     n
 }
@@ -50,7 +43,7 @@ fn loops(face: &[u8]) -> usize
     requires { header_size ≤ length face.now }
     ensures { (result ≡ loops face.now) × (result < 256) }
 {
-    wide(face[2]) as usize
+    usize::from(face[2])
 }
 
 // How many points loop k has.
@@ -65,12 +58,9 @@ fn points(face: &[u8]) -> usize
     requires { header_size + 2 * loops face.now ≤ length face.now }
     ensures { (result ≡ points face.now) × (result < 16777216) }
 {
-    let l = loops(face);
     let mut total = 0;
-    let mut k = 0;
-    while k < l {
+    for k in 0..loops(face) {
         total += count_at(face, k);
-        k += 1;
     }
     total
 }

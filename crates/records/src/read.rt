@@ -1,5 +1,6 @@
-// Reading a face record into lent slices, its corners into a table. Nothing is checked here but that the record is long
-// enough for what its counts say and that the slices have room: where not, nothing is written.
+// Reading a face record into lent slices, its corners into a table; each function answers how many values it read. Nothing
+// is checked here but that the record is long enough for what its counts say and that the slices have room: where not,
+// nothing is written, and there is no number.
 ghost use Rattle.std.specs.Prelude.{◌≡◌, ◌+◌, ◌*◌, ◌≤◌, length, get_or};
 ghost use Rattle.records.specs.Bytes.{real_at, row_at};
 ghost use Rattle.tables.specs.Rows.{rows, corner_of};
@@ -10,18 +11,11 @@ use super::{HEAD_REALS, HEADER_SIZE, count_at, loops, points, real_at};
 use numbers::math::Vec3;
 use tables::corners::{Corner, count, put_corner};
 
-// How many values were read, or that something lent was too short.
-#[derive(Clone, Copy)]
-pub enum Read {
-    Count(usize),
-    Refused,
-}
-
 // The byte at i, 0 past the end.
 fn byte_at(s: &[u8], i: usize) -> u8
     ensures { result ≡ get_or s.now i 0 }
 {
-    if i < s.len() { s[i] } else { 0 }
+    s.get(i).copied().unwrap_or(0)
 }
 
 pub fn kind(face: &[u8]) -> u8
@@ -42,6 +36,7 @@ pub fn segments(face: &[u8]) -> u8
     byte_at(face, 4)
 }
 
+#[tactic(auto, unfolding(crate::specs::Lent::counts_there))]
 fn counts_there(face: &[u8]) -> bool
     ensures { result ≡ counts_there face.now }
 {
@@ -52,22 +47,20 @@ fn counts_there(face: &[u8]) -> bool
 }
 
 // The points of each loop.
-pub fn read_counts(face: &[u8], dst: &mut [usize]) -> Read
+pub fn read_counts(face: &[u8], dst: &mut [usize]) -> Option<usize>
     ensures { CountsRead face.now dst.old dst.new result }
 {
     if !counts_there(face) {
-        return Read::Refused;
+        return None;
     }
     let l = loops(face);
     if dst.len() < l {
-        return Read::Refused;
+        return None;
     }
-    let mut k = 0;
-    while k < l {
+    for k in 0..l {
         dst[k] = count_at(face, k);
-        k += 1;
     }
-    Read::Count(l)
+    Some(l)
 }
 
 // The n reals that stand w bytes apart, the first `off` bytes behind `base`.
@@ -76,33 +69,32 @@ fn read_column(face: &[u8], base: usize, off: usize, w: usize, n: usize, dst: &m
     ensures { dst.new ≡ front (row_at real_at w face.now (base + off) n) dst.old }
 {
     let mut p = base + off;
-    let mut i = 0;
-    while i < n {
+    for i in 0..n {
         dst[i] = real_at(face, p);
         p += w;
-        i += 1;
     }
 }
 
 // The 13 reals before the points.
-pub fn read_head(face: &[u8], dst: &mut [f64]) -> Read
+pub fn read_head(face: &[u8], dst: &mut [f64]) -> Option<usize>
     ensures { HeadRead face.now dst.old dst.new result }
 {
     if !counts_there(face) {
-        return Read::Refused;
+        return None;
     }
     let at = HEADER_SIZE + 2 * loops(face);
     if face.len() < at + 8 * HEAD_REALS {
-        return Read::Refused;
+        return None;
     }
     if dst.len() < HEAD_REALS {
-        return Read::Refused;
+        return None;
     }
     read_column(face, at, 0, 8, HEAD_REALS, dst);
-    Read::Count(HEAD_REALS)
+    Some(HEAD_REALS)
 }
 
 // The corner whose parameters stand at p and whose position stands at q.
+#[tactic(auto, using(crate::proofs::Columns::corner_read))]
 fn corner_in(face: &[u8], p: usize, q: usize) -> Corner
     requires { (p + 16 ≤ length face.now) × (q + 24 ≤ length face.now) }
     ensures { corner_of result ≡ corner_at face.now p q }
@@ -125,27 +117,25 @@ fn fill_corners(face: &[u8], n: usize, t: &mut [f64])
 {
     let uv = HEADER_SIZE + 2 * loops(face) + 8 * HEAD_REALS;
     let xyz = uv + 16 * n;
-    let mut i = 0;
-    while i < n {
+    for i in 0..n {
         put_corner(t, i, corner_in(face, uv + 16 * i, xyz + 24 * i));
-        i += 1;
     }
 }
 
 // The corners of all loops in file order, a row each.
-pub fn read_corners(face: &[u8], t: &mut [f64]) -> Read
+pub fn read_corners(face: &[u8], t: &mut [f64]) -> Option<usize>
     ensures { CornersRead face.now t.old t.new result }
 {
     if !counts_there(face) {
-        return Read::Refused;
+        return None;
     }
     let n = points(face);
     if face.len() < HEADER_SIZE + 2 * loops(face) + 8 * (HEAD_REALS + 5 * n) {
-        return Read::Refused;
+        return None;
     }
     if count(t) < n {
-        return Read::Refused;
+        return None;
     }
     fill_corners(face, n, t);
-    Read::Count(n)
+    Some(n)
 }

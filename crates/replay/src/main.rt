@@ -8,59 +8,46 @@ ghost use Rattle.std.specs.Prelude.{◌≡◌, ◌∷◌, []};
 ghost use Rattle.records.specs.Bytes.{number};
 
 use answers::{four_bytes, write_refusal};
-use closer::{Answer, close_face};
+use closer::close_face;
 use painted::{is_painted, paint};
-use std::io::{Print, Read};
+use std::io;
+use std::io::{ErrorKind, Print, Read};
 
 // No face is longer, and no more is lent.
 const MOST: usize = 65536;
 
-fn wide(byte: u8) -> usize
-    ensures { result ≡ byte }
-{
-    byte as usize
-}
-
+#[tactic(auto, unfolding(records::specs::Bytes::number))]
 fn number(a: u8, b: u8, c: u8, d: u8) -> usize
     ensures { result ≡ number (a ∷ b ∷ c ∷ d ∷ []) }
 {
-    wide(a) + 256 * (wide(b) + 256 * (wide(c) + 256 * wide(d)))
+    u32::from_le_bytes([a, b, c, d]) as usize
 }
 
 // What is stored of an answer: the length of its bytes, those bytes, and whether all others stayed.
-fn write_stored(rt: &HostRuntime, answer: &[u8], stayed: bool) -> bool {
-    let length = four_bytes(answer.len());
-    if rt.write_all(&length).is_err() {
-        return false;
-    }
-    if rt.write_all(answer).is_err() {
-        return false;
-    }
-    if stayed {
-        return rt.write_all(b"\x00").is_ok();
-    }
-    rt.write_all(b"\x01").is_ok()
+fn write_stored(rt: &HostRuntime, answer: &[u8], stayed: bool) -> io::Result<()> {
+    rt.write_all(&four_bytes(answer.len()))?;
+    rt.write_all(answer)?;
+    rt.write_all(&[u8::from(!stayed)])
 }
 
 // Closes a face with these bytes lent, whatever they hold.
-fn answer_face(rt: &HostRuntime, face: &[u8], lent: &mut [u8]) -> bool {
+fn answer_face(rt: &HostRuntime, face: &[u8], lent: &mut [u8]) -> io::Result<()> {
     paint(lent);
-    let answer = close_face(face, lent);
-    match answer {
-        Answer::Closed(length) => {
+    match close_face(face, lent) {
+        Ok(length) => {
             let stayed = is_painted(lent, length);
             write_stored(rt, &lent[..length], stayed)
         }
-        Answer::Refused { number, place } => {
+        Err(refusal) => {
             let mut six = [0u8; 6];
-            let length = write_refusal(number, place, &mut six);
+            let length = write_refusal(refusal.number(), refusal.place(), &mut six);
             let stayed = is_painted(lent, 0);
             write_stored(rt, &six[..length], stayed)
         }
     }
 }
 
-// Reads a record of so many bytes and answers it. False where the input ends too early, or a face
+// Reads a record of so many bytes and answers it. It fails where the input ends too early, or a face
 // asks for more than there is.
 fn replay_face(
     rt: &HostRuntime,
@@ -68,40 +55,34 @@ fn replay_face(
     length: usize,
     face: &mut [u8],
     res: &mut [u8],
-) -> bool {
-    if res.len() < lent {
-        return false;
+) -> io::Result<()> {
+    if res.len() < lent || face.len() < length {
+        return Err(ErrorKind::InvalidInput.into());
     }
-    if face.len() < length {
-        return false;
-    }
-    if rt.stdin().read_exact(&mut face[..length]).is_err() {
-        return false;
-    }
+    rt.stdin().read_exact(&mut face[..length])?;
     answer_face(rt, &face[..length], &mut res[..lent])
 }
 
 // The next face, if there is one.
-fn next_face(rt: &HostRuntime, face: &mut [u8], res: &mut [u8]) -> bool {
+fn next_face(rt: &HostRuntime, face: &mut [u8], res: &mut [u8]) -> io::Result<()> {
     let mut head = [0u8; 8];
-    if rt.stdin().read_exact(&mut head).is_err() {
-        return false;
-    }
+    rt.stdin().read_exact(&mut head)?;
     let lent = number(head[0], head[1], head[2], head[3]);
     let length = number(head[4], head[5], head[6], head[7]);
     replay_face(rt, lent, length, face, res)
 }
 
 // The turns are counted because a loop has to end, and nothing says that the input does.
-fn replay_all(rt: &HostRuntime, face: &mut [u8], res: &mut [u8]) {
-    let mut turns = u64::MAX;
-    while turns > 0 && next_face(rt, face, res) {
-        turns -= 1;
+fn replay_all(rt: &HostRuntime, face: &mut [u8], res: &mut [u8]) -> io::Result<()> {
+    for _ in 0..u64::MAX {
+        next_face(rt, face, res)?;
     }
+    Ok(())
 }
 
+// Whatever stops it, the end of the input too, the status is 0.
 fn main(rt: HostRuntime) {
     let mut face = [0u8; MOST];
     let mut result = [0u8; MOST];
-    replay_all(&rt, &mut face, &mut result);
+    let _ = replay_all(&rt, &mut face, &mut result);
 }

@@ -11,10 +11,8 @@ fn shade(i: usize) -> u8
 pub fn paint(bytes: &mut [u8])
     ensures { Painted 0 bytes.new }
 {
-    let mut i = 0;
-    while i < bytes.len() {
-        bytes[i] = shade(i);
-        i += 1;
+    for (i, byte) in bytes.iter_mut().enumerate() {
+        *byte = shade(i);
     }
 }
 
@@ -23,12 +21,10 @@ pub fn is_painted(bytes: &[u8], from: usize) -> bool
     ensures painted { result ≡ true → Painted from bytes.now }
     ensures value { Painted from bytes.now → result ≡ true }
 {
-    let mut i = from;
-    while i < bytes.len() {
+    for i in from..bytes.len() {
         if bytes[i] != shade(i) {
             return false;
         }
-        i += 1;
     }
     true
 }

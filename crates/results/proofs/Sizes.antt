@@ -9,7 +9,7 @@ use lib.ListN.{length, get_or, drop, drop_of_length-le}
 use lib.Seq.{drop-cons}
 use borrow.Author.Tests.{lt-ltb, le-ltb, le-leb, lt-leb}
 use Rattle.lists.specs.Elements.{sum}
-use Rattle.results.specs.declared.Size.TheVariants.{Takes, TooLarge}
+use Rattle.std.specs.Prelude.{Some, None}
 use Rattle.results.specs.Written.{all_short, header_holds, size_of}
 
 -- i counts are taken: all are short, and `corners` is their sum
@@ -23,14 +23,14 @@ pub sum-start : {counts : List ℕ} → Summing counts 0 0
 sum-start = record { far = omega arith; small = omega arith; is = omega arith; short = refl }
 
 module _ (counts : List ℕ) where
-  no_loop : length counts < 1 → TooLarge ≡ size_of counts
+  no_loop : length counts < 1 → None ≡ size_of counts
   unfolding size_of header_holds
   no_loop h = rw (lt-leb 1 (length counts) h)
 
-  pub none : {n : ℕ} → n ≡ length counts → n < 1 → TooLarge ≡ size_of counts
+  pub none : {n : ℕ} → n ≡ length counts → n < 1 → None ≡ size_of counts
   none e h = no_loop (omega arith)
 
-  pub too_many : {n : ℕ} → n ≡ length counts → 1 ≤ n → 256 < n → TooLarge ≡ size_of counts
+  pub too_many : {n : ℕ} → n ≡ length counts → 1 ≤ n → 256 < n → None ≡ size_of counts
   unfolding size_of header_holds
   too_many e l h = rw (le-leb 1 (length counts) (omega arith), lt-leb (length counts) 256 (omega arith))
 
@@ -40,7 +40,7 @@ module _ (counts : List ℕ) where
     ahead h = rw (add-one i, drop-cons counts i 0 h)
 
     module _ {n : ℕ} (e : n ≡ length counts) (some : 1 ≤ n) (few : n ≤ 256) where
-      pub too_long : i < n → 65535 < get_or counts i 0 → TooLarge ≡ size_of counts
+      pub too_long : i < n → 65535 < get_or counts i 0 → None ≡ size_of counts
       unfolding size_of header_holds all_short
       too_long h l =
           let q : all_short counts ≡ false = s.short ∙ ap all_short (ahead (omega arith)) ∙ rw (le-ltb (get_or counts i 0) 65536 (omega arith)) in
@@ -54,7 +54,7 @@ module _ (counts : List ℕ) where
           let t : all_short (drop i counts) ≡ all_short (drop (i + 1) counts) = ap all_short a ∙ rw (lt-ltb (get_or counts i 0) 65536 (omega arith)) in
           record { far = omega arith; small = let z = s.small in omega arith; is = let z = s.is in omega arith; short = s.short ∙ t }
 
-      pub sized : n ≤ i → Takes corners (4 + 10 * (n - 1 + 1) + 40 * corners) ≡ size_of counts
+      pub sized : n ≤ i → Some (record { corners = corners; length = 4 + 10 * (n - 1 + 1) + 40 * corners }) ≡ size_of counts
       unfolding size_of header_holds all_short sum
       sized h =
           let d : drop i counts ≡ [] = drop_of_length-le counts {i = i} (omega arith) in

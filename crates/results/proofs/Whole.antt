@@ -1,6 +1,6 @@
 -- The parts of a result record stored one behind another are the record; and what the writer answers.
 use mathlib.Core.Path.{◌≡◌, refl, sym, ap, ◌∙◌}
-use mathlib.Core.Bool.{Bool, true, false, ◌&&◌, cond, true≢false}
+use mathlib.Core.Bool.{Bool, true, false, ◌&&◌, true≢false}
 use mathlib.Core.List.{List, [], ◌∷◌, ◌++◌, map}
 use Prim.Native.Nat.{ℕ, ◌+◌, ◌-◌, ◌*◌, ◌≤◌, ◌<◌}
 use native.Mathlib.Omega.{arith}
@@ -16,10 +16,10 @@ use Rattle.records.specs.Result.{encode}
 use Rattle.records.specs.Lent.{front, filled_if}
 use Rattle.records.proofs.RoundTrip.{codes_u16, codes_real, codes_uv, codes_xyz, length-row}
 use Rattle.results.specs.declared.Path.{Path}
-use Rattle.results.specs.declared.Size.{Size}
-use Rattle.results.specs.declared.Size.TheVariants.{Takes, TooLarge}
-use Rattle.results.specs.declared.Written.TheVariants.{Length, Refused}
-use Rattle.results.specs.Written.{path_of, columns_of, table_result, header_holds, length_of, size_of, written_if, result_fits, Fitting, WrittenTo}
+use Rattle.results.specs.declared.RecordSize.{RecordSize}
+use Rattle.std.specs.Prelude.{Some, None}
+use Rattle.std.specs.Bool.{then_some}
+use Rattle.results.specs.Written.{path_of, columns_of, table_result, header_holds, length_of, size_by, size_of, result_fits, Fitting, WrittenTo}
 use Rattle.tables.specs.Corners.{Corner, uv_of, positions}
 use Rattle.tables.specs.Rows.{rows}
 use Rattle.results.proofs.Columns.{columns_uv, columns_xyz}
@@ -108,23 +108,23 @@ and_snd false b e = absurd (true≢false (sym e))
 
 -- ---- what the writer answers
 
--- `result_size` has given m corners and n bytes
-pub record Sized (counts : List ℕ) (m n : ℕ) : Type 0 where
+-- `result_size` has given what a record takes
+pub record Sized (counts : List ℕ) (size : RecordSize) : Type 0 where
   pub held : header_holds counts ≡ true
-  pub corners : m ≡ sum counts
-  pub long : n ≡ length_of counts
+  pub corners : size.corners ≡ sum counts
+  pub long : size.length ≡ length_of counts
 
-pub sized : {counts : List ℕ} {m n : ℕ} (s : Size) → s ≡ Takes m n → s ≡ size_of counts → Sized counts m n
+pub sized : {counts : List ℕ} {size : RecordSize} → Some size ≡ size_of counts → Sized counts size
 unfolding size_of
-sized {counts} {m} {n} s f e = go (header_holds counts) refl (sym f ∙ e)
+sized {counts} {size} e = go (header_holds counts) refl e
   where
-    go : (b : Bool) → header_holds counts ≡ b → Takes m n ≡ cond b (Takes (sum counts) (length_of counts)) TooLarge → Sized counts m n
-    go true h q = record { held = h; corners = cc; long = cc }
-    go false h q = let z : ◌≡◌ {A = ℕ} 0 1 = cc in absurd (omega arith)
+    go : (b : Bool) → header_holds counts ≡ b → Some size ≡ then_some b (size_by counts) → Sized counts size
+    go true h q = let e : size ≡ size_by counts = cc in record { held = h; corners = ap (λ (k : RecordSize). k.corners) e; long = ap (λ (k : RecordSize). k.length) e }
+    go false h q = absurd (cc)
 
 -- behind the last test, with r the rows of the table
-pub fitting : {out counts : List ℕ} {areas t : List Float} {m n r : ℕ} → Sized counts m n → n ≤ length out → length counts ≤ length areas
-    → r ≡ length (rows t) → m ≤ r → Fitting out counts areas m t
+pub fitting : {out counts : List ℕ} {areas t : List Float} {size : RecordSize} {r : ℕ} → Sized counts size → size.length ≤ length out
+    → length counts ≤ length areas → r ≡ length (rows t) → size.corners ≤ r → Fitting out counts areas size.corners t
 unfolding header_holds
 fitting {counts = counts} s h a q l = record {
   outer = leb-true 1 (length counts) (and_fst (1 ≤? length counts) _ s.held);
@@ -139,37 +139,38 @@ abbrev fits : (counts : List ℕ) (areas t : List Float) (out : List ℕ) → Bo
 fits counts areas t out = result_fits counts (length areas) (length (rows t)) (length out)
 
 module _ {path : Path} {counts : List ℕ} {areas t : List Float} {out : List ℕ} where
-  kept : fits counts areas t out ≡ false → WrittenTo path counts areas t out out Refused
-  unfolding written_if filled_if
+  kept : fits counts areas t out ≡ false → WrittenTo path counts areas t out out None
+  unfolding filled_if
   kept e = record { answer = rw e; is = rw e }
 
-  pub too_large : (s : Size) → s ≡ TooLarge → s ≡ size_of counts → WrittenTo path counts areas t out out Refused
+  pub too_large : None ≡ size_of counts → WrittenTo path counts areas t out out None
   unfolding size_of result_fits
-  too_large s f e = kept (go (header_holds counts) (sym f ∙ e))
+  too_large e = kept (go (header_holds counts) e)
     where
-      go : (b : Bool) → TooLarge ≡ cond b (Takes (sum counts) (length_of counts)) TooLarge
+      go : (b : Bool) → None ≡ then_some b (size_by counts)
           → (b && ((length_of counts ≤? length out) && ((length counts ≤? length areas) && (sum counts ≤? length (rows t))))) ≡ false
       go false e = refl
-      go true e = let q : ◌≡◌ {A = ℕ} 0 1 = cc in absurd (omega arith)
+      go true e = absurd (cc)
 
-  module _ {m n : ℕ} (s : Sized counts m n) where
-    pub short_out : length out < n → WrittenTo path counts areas t out out Refused
+  module _ {size : RecordSize} (s : Sized counts size) where
+    pub short_out : length out < size.length → WrittenTo path counts areas t out out None
     unfolding result_fits
     short_out h = let l = s.long in kept (and_right (header_holds counts) _ (rw (lt-leb (length_of counts) (length out) (omega arith))))
 
-    pub short_areas : length areas < length counts → WrittenTo path counts areas t out out Refused
+    pub short_areas : length areas < length counts → WrittenTo path counts areas t out out None
     unfolding result_fits
     short_areas h = kept (and_right (header_holds counts) _ (and_right (length_of counts ≤? length out) _ (rw (lt-leb (length counts) (length areas) h))))
 
-    pub short_columns : {r : ℕ} → r ≡ length (rows t) → r < m → WrittenTo path counts areas t out out Refused
+    pub short_columns : {r : ℕ} → r ≡ length (rows t) → r < size.corners → WrittenTo path counts areas t out out None
     unfolding result_fits
     short_columns {r} q h =
-        let l : length (rows t) < sum counts = rw (q, s.corners) at h in
+        let m = s.corners in
+        let l : length (rows t) < sum counts = omega arith in
         kept (and_right (header_holds counts) _ (and_right (length_of counts ≤? length out) _ (and_right (length counts ≤? length areas) _ (lt-leb (sum counts) _ l))))
 
-    pub done : Fitting out counts areas m t → {out' : List ℕ} {p : ℕ} → p ≡ path_of path
-        → out' ≡ front (encode (table_result p counts areas (rows t))) out → WrittenTo path counts areas t out out' (Length n)
-    unfolding written_if filled_if result_fits
+    pub done : Fitting out counts areas size.corners t → {out' : List ℕ} {p : ℕ} → p ≡ path_of path
+        → out' ≡ front (encode (table_result p counts areas (rows t))) out → WrittenTo path counts areas t out out' (Some size.length)
+    unfolding filled_if result_fits
     done w ep eo =
         let all : fits counts areas t out ≡ true =
         rw (s.held, le-leb (length_of counts) (length out) w.long, le-leb (length counts) (length areas) w.an_area_each, le-leb (sum counts) _ (rw w.corners at w.room)) in

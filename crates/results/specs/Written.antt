@@ -1,5 +1,6 @@
 -- What the writer of result records is lent, answers and leaves.
-use Rattle.std.specs.Prelude.{◌≡◌, Bool, true, ◌&&◌, cond, List, [], ◌∷◌, map, ℕ, ◌-◌, ◌≤◌, length, take, drop, Float}
+use Rattle.std.specs.Prelude.{◌≡◌, Bool, true, ◌&&◌, List, [], ◌∷◌, map, ℕ, ◌-◌, ◌≤◌, length, take, drop, Float, Option}
+use Rattle.std.specs.Bool.{then_some}
 use Rattle.numbers.specs.declared.math.Vec3.{Vec3}
 use Rattle.records.specs.Bytes.{◌<?◌, ◌≤?◌, real, row}
 use Rattle.lists.specs.Elements.{sum}
@@ -9,10 +10,7 @@ use Rattle.tables.specs.Corners.{Corner, Corners, uv_of, positions}
 use Rattle.tables.specs.Rows.{rows, reals_of}
 use Rattle.results.specs.declared.Path.{Path}
 use Rattle.results.specs.declared.Path.TheVariants.{Closed, Wrapped, Whole}
-use Rattle.results.specs.declared.Size.{Size}
-use Rattle.results.specs.declared.Size.TheVariants.{Takes, TooLarge}
-use Rattle.results.specs.declared.Written.{Written}
-use Rattle.results.specs.declared.Written.TheVariants.{Length, Refused}
+use Rattle.results.specs.declared.RecordSize.{RecordSize}
 
 -- 01, "The result record": "path (0 closed, 1 wrapped, 2 whole surface)"
 abbrev pub path_of : Path → ℕ
@@ -45,19 +43,20 @@ header_holds counts = (1 ≤? length counts) && ((length counts ≤? 256) && all
 abbrev pub length_of : List ℕ → ℕ
 length_of counts = result_length (length counts - 1) (sum counts)
 
-unfoldable pub size_of : List ℕ → Size
-size_of counts = cond (header_holds counts) (Takes (sum counts) (length_of counts)) TooLarge
+-- what a record with these counts takes
+abbrev pub size_by : List ℕ → RecordSize
+size_by counts = record { corners = sum counts; length = length_of counts }
+
+unfoldable pub size_of : List ℕ → Option RecordSize
+size_of counts = then_some (header_holds counts) (size_by counts)
 
 -- ---- what writing answers, and makes of the lent bytes
-
-unfoldable pub written_if : Bool → ℕ → Written
-written_if fits n = cond fits (Length n) Refused
 
 unfoldable pub result_fits : List ℕ → (areas room lent : ℕ) → Bool
 result_fits counts areas room lent = header_holds counts && ((length_of counts ≤? lent) && ((length counts ≤? areas) && (sum counts ≤? room)))
 
-pub record WrittenTo (path : Path) (counts : List ℕ) (areas t : List Float) (out out' : List ℕ) (r : Written) : Type 0 where
-  pub answer : r ≡ written_if (result_fits counts (length areas) (length (rows t)) (length out)) (length_of counts)
+pub record WrittenTo (path : Path) (counts : List ℕ) (areas t : List Float) (out out' : List ℕ) (r : Option ℕ) : Type 0 where
+  pub answer : r ≡ then_some (result_fits counts (length areas) (length (rows t)) (length out)) (length_of counts)
   pub is : out' ≡ filled_if (result_fits counts (length areas) (length (rows t)) (length out)) (encode (table_result (path_of path) counts areas (rows t))) out
 
 -- ---- the table holds a record of m corners, and it fits the lent bytes

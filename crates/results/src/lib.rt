@@ -21,54 +21,48 @@ pub enum Path {
     Whole,
 }
 
-// What a record with some corner counts takes, or that a record cannot hold them.
-#[derive(Clone, Copy)]
-pub enum Size {
-    Takes { corners: usize, length: usize },
-    TooLarge,
-}
+impl From<Path> for u8 {
+    ghost from_gives = { λ path byte. byte ≡ path_of path };
 
-#[derive(Clone, Copy)]
-pub enum Written {
-    Length(usize),
-    Refused,
-}
-
-fn path_byte(path: Path) -> u8
-    ensures { result ≡ path_of path }
-{
-    match path {
-        Path::Closed => 0,
-        Path::Wrapped => 1,
-        Path::Whole => 2,
+    fn from(path: Path) -> u8 {
+        match path {
+            Path::Closed => 0,
+            Path::Wrapped => 1,
+            Path::Whole => 2,
+        }
     }
 }
 
-pub fn result_size(counts: &[usize]) -> Size
+// What a record takes.
+#[derive(Clone, Copy)]
+pub struct RecordSize {
+    pub corners: usize,
+    pub length: usize,
+}
+
+// What a record with some corner counts takes, if a record can hold them.
+pub fn result_size(counts: &[usize]) -> Option<RecordSize>
     ensures { result ≡ size_of counts.now }
 {
     let n = counts.len();
     if n < 1 {
-        return Size::TooLarge;
+        return None;
     }
     if n > 256 {
-        return Size::TooLarge;
+        return None;
     }
     let holes = n - 1;
     let mut corners = 0;
-    let mut i = 0;
-    while i < n {
-        let count = counts[i];
-        if count > 65535 {
-            return Size::TooLarge;
+    for count in counts {
+        if *count > 65535 {
+            return None;
         }
         corners += count;
-        i += 1;
     }
-    Size::Takes {
+    Some(RecordSize {
         corners,
         length: 4 + 10 * (holes + 1) + 40 * corners,
-    }
+    })
 }
 
 // The w lowest bytes of n, the lowest first, from `at` on.
@@ -77,11 +71,9 @@ fn put(out: &mut [u8], at: usize, w: usize, n: u64)
     ensures { out.new ≡ sets out.old at (bytes w n) }
 {
     let mut rest = n;
-    let mut i = 0;
-    while i < w {
+    for i in 0..w {
         out[at + i] = (rest % 256) as u8;
-        rest = rest / 256;
-        i += 1;
+        rest /= 256;
     }
 }
 
@@ -100,10 +92,8 @@ fn put_counts(out: &mut [u8], at: usize, counts: &[usize])
     requires { at + 2 * length counts.now ≤ length out.old }
     ensures { out.new ≡ sets out.old at (row u16 counts.now) }
 {
-    let mut i = 0;
-    while i < counts.len() {
-        put(out, at + 2 * i, 2, counts[i] as u64);
-        i += 1;
+    for (i, count) in counts.iter().enumerate() {
+        put(out, at + 2 * i, 2, *count as u64);
     }
 }
 
@@ -111,10 +101,8 @@ fn put_reals(out: &mut [u8], at: usize, xs: &[f64])
     requires { at + 8 * length xs.now ≤ length out.old }
     ensures { out.new ≡ sets out.old at (row real xs.now) }
 {
-    let mut i = 0;
-    while i < xs.len() {
-        put(out, at + 8 * i, 8, bits::to_bits(xs[i]));
-        i += 1;
+    for (i, x) in xs.iter().enumerate() {
+        put(out, at + 8 * i, 8, bits::to_bits(*x));
     }
 }
 
@@ -126,13 +114,11 @@ fn put_columns(out: &mut [u8], at: usize, t: &[f64], m: usize, from: usize, to: 
 {
     let width = 8 * (to - from);
     let mut p = at;
-    let mut i = 0;
-    while i < m {
+    for i in 0..m {
         let a = 5 * i + from;
         let e = 5 * i + to;
         put_reals(out, p, &t[a..e]);
         p += width;
-        i += 1;
     }
 }
 
@@ -150,29 +136,26 @@ fn put_result(out: &mut [u8], path: u8, counts: &[usize], areas: &[f64], m: usiz
 }
 
 // One count and one area for each loop, the outer loop first, and all corners, loop by loop. Areas and
-// table may be longer than what is taken from them.
+// table may be longer than what is taken from them. Answers the record's length, where all fits.
 pub fn write_result(
     path: Path,
     counts: &[usize],
     areas: &[f64],
     t: &[f64],
     out: &mut [u8],
-) -> Written
+) -> Option<usize>
     ensures { WrittenTo path counts.now areas.now t.now out.old out.new result }
 {
-    let size = result_size(counts);
-    let Size::Takes { corners, length } = size else {
-        return Written::Refused;
-    };
-    if out.len() < length {
-        return Written::Refused;
+    let size = result_size(counts)?;
+    if out.len() < size.length {
+        return None;
     }
     if areas.len() < counts.len() {
-        return Written::Refused;
+        return None;
     }
-    if count(t) < corners {
-        return Written::Refused;
+    if count(t) < size.corners {
+        return None;
     }
-    put_result(out, path_byte(path), counts, areas, corners, t);
-    Written::Length(length)
+    put_result(out, u8::from(path), counts, areas, size.corners, t);
+    Some(size.length)
 }

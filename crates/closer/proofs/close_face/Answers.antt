@@ -1,3 +1,4 @@
+use Rattle.std.proofs.lemmas.Result.{err_from_is_err_and}
 use Rattle.closer.proofs.Call.{promised, too_few, header_refused, face_refused, face-closed}
 use Rattle.closer.proofs.close_face.Goals as goal
 
@@ -21,21 +22,22 @@ returns-then-res-limits c =
     (too_few _ _ _ c.version1-limits.ensures c.if-res-limits.true))
 
 -- refusal 2
-pub returns-in-At : goal.returns-in-At
-returns-in-At c =
+pub returns-in-Some : goal.returns-in-Some
+returns-in-Some c =
     by_clause
     (promised _ _ (c.shared_slice_known-1.given 2)
-    (header_refused _ _ _ c.version1-limits.ensures c.if-res-limits.false _ _ c.wrong_header.ensures c.in-At.is))
+    (header_refused _ _ _ c.version1-limits.ensures c.if-res-limits.false _ c.in-Some.ensures))
 
 -- the others
-pub returns-in-Refused : goal.returns-in-Refused
-returns-in-Refused c =
+pub returns-in_err-filled : goal.returns-in_err-filled
+returns-in_err-filled c =
+    let p = err_from_is_err_and c.from_residual.result c.from_residual.ensures.1 in
     by_clause
     (promised _ _ (c.shared_slice_known-1.given 2)
-    (face_refused _ _ _ c.version1-limits.ensures c.if-res-limits.false _ _ _ _ c.fill_face.ensures _ _ c.in-Refused.is))
+    (rw (p.1, p.2) (face_refused _ _ _ c.version1-limits.ensures c.if-res-limits.false _ _ _ _ c.in_err-filled.ensures)))
 
-pub returns-in-Face : goal.returns-in-Face
-returns-in-Face c =
+pub returns : goal.returns
+returns c =
     by_clause
     (promised _ _ (c.shared_slice_known-1.given 2)
-    (face-closed _ _ _ c.version1-limits.ensures c.if-res-limits.false _ _ _ _ c.fill_face.ensures _ _ c.in-Face.is _ _ c.write_filled.ensures))
+    (face-closed _ _ _ c.version1-limits.ensures c.if-res-limits.false _ _ _ _ c.in_ok-filled.ensures _ _ c.write_filled.ensures))

@@ -3,7 +3,7 @@ use Rattle.records.proofs.Counting as counting
 use Rattle.records.proofs.points.Goals as goal
 
 pub loop-k-init : goal.loop-k-init
-loop-k-init c = (counting.add_start, c.loops-l.ensures)
+loop-k-init c = (counting.add_start, c.loops-k-end.ensures)
 
 pub loop-k-preserved : goal.loop-k-preserved
 loop-k-preserved c =

@@ -5,6 +5,3 @@ use Rattle.results.proofs.put_columns.Given as goal
 
 abbrev pub invariant-loop-i : goal.invariant-loop-i
 invariant-loop-i l = (l.width ≡ 8 * (l.to - l.from)) × rows.Columns l.initial.out l.at l.t l.m l.from l.to l.out l.p l.i
-
-abbrev pub decreases-loop-i : goal.decreases-loop-i
-decreases-loop-i l = l.m - l.i

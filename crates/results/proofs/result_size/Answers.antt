@@ -10,13 +10,13 @@ returns-then-n-gt256 c = sizes.too_many _ refl c.if-n-lt1.false c.if-n-gt256.tru
 
 pub returns-then-count-gt65535 : goal.returns-then-count-gt65535
 returns-then-count-gt65535 c =
-    sizes.too_long _ c.loop-i.invariant.0 refl c.if-n-lt1.false c.if-n-gt256.false c.loop-i-test.true c.if-count-gt65535.true
+    sizes.too_long _ c.loop-count.invariant.0 refl c.if-n-lt1.false c.if-n-gt256.false c.loop-count-test.true c.if-count-gt65535.true
 
-pub loop-i-preserved : goal.loop-i-preserved
-loop-i-preserved c = (
-  sizes.sum_turn _ c.loop-i.invariant.0 refl c.if-n-lt1.false c.if-n-gt256.false c.loop-i-test.true c.if-count-gt65535.false,
-  c.loop-i.invariant.1,
+pub loop-count-preserved : goal.loop-count-preserved
+loop-count-preserved c = (
+  sizes.sum_turn _ c.loop-count.invariant.0 refl c.if-n-lt1.false c.if-n-gt256.false c.loop-count-test.true c.if-count-gt65535.false,
+  c.loop-count.invariant.1,
 )
 
 pub returns : goal.returns
-returns c = sizes.sized _ c.loop-i.invariant.0 refl c.if-n-lt1.false c.if-n-gt256.false c.loop-i-test.false
+returns c = sizes.sized _ c.loop-count.invariant.0 refl c.if-n-lt1.false c.if-n-gt256.false c.loop-count-test.false

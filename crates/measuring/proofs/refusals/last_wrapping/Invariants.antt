@@ -3,6 +3,3 @@ use Rattle.measuring.proofs.refusals.last_wrapping.Given as goal
 
 abbrev pub invariant-loop-k : goal.invariant-loop-k
 invariant-loop-k l = Falling l.wraps l.k
-
-abbrev pub decreases-loop-k : goal.decreases-loop-k
-decreases-loop-k l = l.k

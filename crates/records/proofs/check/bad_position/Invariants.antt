@@ -1,10 +1,7 @@
-use Prim.Native.Nat.{◌+◌, ◌-◌, ◌*◌}
+use Prim.Native.Nat.{◌+◌, ◌*◌}
 use Rattle.records.specs.Face.{head_reals, kind}
 use Rattle.records.proofs.Reals as reals
 use Rattle.records.proofs.check.bad_position.Given as goal
 
 abbrev pub invariant-loop-j : goal.invariant-loop-j
 invariant-loop-j l = reals.Scan l.face (head_reals + 2 * l.n) (3 * l.n) (kind l.face) l.at l.j
-
-abbrev pub decreases-loop-j : goal.decreases-loop-j
-decreases-loop-j l = 3 * l.n - l.j

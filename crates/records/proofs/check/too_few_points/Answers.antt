@@ -11,4 +11,4 @@ loop-k-preserved c =
     (counting.few_turn _ c.loop-k.invariant.0 (omega arith) c.count_at.ensures.0 c.if-count_at-lt-MIN_POINTS.false, c.loop-k.invariant.1)
 
 pub returns : goal.returns
-returns c = counting.few-end _ c.loop-k.invariant.0 (omega arith)
+returns c = counting.few_end _ c.loop-k.invariant.0 (omega arith)

@@ -3,7 +3,7 @@ use Rattle.records.proofs.Counting as counting
 use Rattle.records.proofs.check.too_many_points.Goals as goal
 
 pub loop-k-init : goal.loop-k-init
-loop-k-init c = (counting.total-start, c.loops-l.ensures)
+loop-k-init c = (counting.total_start, c.loops-k-end.ensures)
 
 pub returns-then-total-limits : goal.returns-then-total-limits
 returns-then-total-limits c = counting.total_found c.loop-k.invariant.0 (omega arith) c.count_at-total.ensures.0 c.if-total-limits.true
@@ -15,4 +15,4 @@ loop-k-preserved c = (
 )
 
 pub returns : goal.returns
-returns c = counting.total-end c.loop-k.invariant.0 (omega arith)
+returns c = counting.total_end c.loop-k.invariant.0 (omega arith)

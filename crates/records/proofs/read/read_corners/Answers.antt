@@ -1,25 +1,24 @@
-use mathlib.Core.Bool.{not}
-use Rattle.std.proofs.Common.{ap}
+use mathlib.Core.Path.{sym, ◌∙◌}
 use native.Mathlib.Omega.{arith}
 use Rattle.records.proofs.Reading as reading
 use Rattle.records.proofs.read.read_corners.Goals as goal
 
 pub returns-then-not-counts_there : goal.returns-then-not-counts_there
-returns-then-not-counts_there c = reading.corners_gone _ _ (reading.gone _ c.counts_there.ensures (ap not c.if-not-counts_there.true))
+returns-then-not-counts_there c = reading.corners_gone _ _ (sym c.counts_there.ensures ∙ c.if-not-counts_there.true)
 
 pub points-n-requires : goal.points-n-requires
-points-n-requires c = reading.there_long _ (reading.there _ c.counts_there.ensures (ap not c.if-not-counts_there.false))
+points-n-requires c = reading.there_long _ (sym c.counts_there.ensures ∙ c.if-not-counts_there.false)
 
 pub loops-requires : goal.loops-requires
-loops-requires c = reading.there_header _ (reading.there _ c.counts_there.ensures (ap not c.if-not-counts_there.false))
+loops-requires c = reading.there_header _ (sym c.counts_there.ensures ∙ c.if-not-counts_there.false)
 
 pub returns-then-face-loops : goal.returns-then-face-loops
 returns-then-face-loops c = reading.no_corners _ _ (omega arith) c.if-face-loops.true
 
 pub returns-then-count-n : goal.returns-then-count-n
-returns-then-count-n c = reading.no_corners-room _ _ c.points-n.ensures.0 c.count.ensures.0 c.if-count-n.true
+returns-then-count-n c = reading.no_corners_room _ _ c.points-n.ensures.0 c.count.ensures.0 c.if-count-n.true
 
 pub returns : goal.returns
 returns c = reading.corners_read _ _ _
-    (reading.corners-room _ _ c.points-n.ensures.0 c.count.ensures.0 (omega arith) c.if-face-loops.false c.if-count-n.false)
+    (reading.corners_room _ _ c.points-n.ensures.0 c.count.ensures.0 (omega arith) c.if-face-loops.false c.if-count-n.false)
     c.fill_corners.ensures

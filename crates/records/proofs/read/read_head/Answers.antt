@@ -1,20 +1,19 @@
-use mathlib.Core.Bool.{not}
-use Rattle.std.proofs.Common.{ap}
+use mathlib.Core.Path.{sym, ◌∙◌}
 use native.Mathlib.Omega.{arith}
 use Rattle.records.proofs.Reading as reading
 use Rattle.records.proofs.read.read_head.Goals as goal
 
 pub returns-then-not-counts_there : goal.returns-then-not-counts_there
-returns-then-not-counts_there c = reading.head_gone _ _ (reading.gone _ c.counts_there.ensures (ap not c.if-not-counts_there.true))
+returns-then-not-counts_there c = reading.head_gone _ _ (sym c.counts_there.ensures ∙ c.if-not-counts_there.true)
 
 pub loops-requires : goal.loops-requires
-loops-requires c = reading.there_header _ (reading.there _ c.counts_there.ensures (ap not c.if-not-counts_there.false))
+loops-requires c = reading.there_header _ (sym c.counts_there.ensures ∙ c.if-not-counts_there.false)
 
 pub returns-then-face-at : goal.returns-then-face-at
 returns-then-face-at c = reading.no_head _ _ (omega arith) c.if-face-at.true
 
 pub returns-then-dst-lt-HEAD_REALS : goal.returns-then-dst-lt-HEAD_REALS
-returns-then-dst-lt-HEAD_REALS c = reading.no_head-room _ _ c.if-dst-lt-HEAD_REALS.true
+returns-then-dst-lt-HEAD_REALS c = reading.no_head_room _ _ c.if-dst-lt-HEAD_REALS.true
 
 pub returns : goal.returns
 returns c =
