@@ -1,7 +1,7 @@
 use mathlib.Core.Bool.{not}
 use Rattle.std.proofs.Common.{ap}
 use mathlib.Core.Path.{refl, ◌∙◌}
-use Rattle.holes.proofs.rows.Laws.{picking, picking_none, picking_turn, picking_end}
+use Rattle.holes.proofs.rows.Laws.{part_picked, picking, picking_none, picking_turn, picking_end}
 use Rattle.holes.proofs.rows.pick_holes.Goals as goal
 
 pub returns-then-not-has_room : goal.returns-then-not-has_room
@@ -29,7 +29,7 @@ loop-i-preserved c = (
     (
       c.loop-i.invariant.1.1.0,
       picking_turn _ _ _ _ _ _ _ _ _ _ _ _ _ c.loop-i.invariant.1.1.1 c.loop-i-test.true
-          c.loop-i.invariant.1.0 c.piece_end-to.ensures c.is_ring-ring.ensures _ _ c.pick_one.ensures c.behind-here.ensures,
+          c.loop-i.invariant.1.0 c.piece_end-to.ensures c.is_ring-ring.ensures _ _ (part_picked _ _ _ _ _ _ _ c.pick_one.ensures) c.behind-here.ensures,
     ),
   ),
 )
