@@ -48,14 +48,7 @@ fn pick_one(out: &mut [Corner], here: usize, one: &[Corner], ring: bool)
 }
 
 // The holes' rows, one loop behind the other, into out from row `at` on.
-pub fn pick_holes(
-    out: &mut [Corner],
-    at: usize,
-    t: &[Corner],
-    counts: &[usize],
-    a: usize,
-    b: usize,
-)
+pub fn pick_holes(out: &mut [Corner], at: usize, t: &[Corner], counts: &[usize], a: usize, b: usize)
     ensures { rows out.new ≡ placed at (flatten (others a b (pieces counts.now (rows t.now)))) (rows out.old) }
 {
     if !has_room(count(out), at, count_rows(t, counts, a, b)) {

@@ -7,7 +7,6 @@ use native.Mathlib.Numerals.{add-one}
 use native.Mathlib.Omega.{arith}
 use borrow.Author.Tests.{not-true, not-false, leb-true, leb-false}
 use lib.Dec.{leb}
-use lib.Ieee.{Float}
 use lib.ListN.{length, get_or, take, drop, length-append, length-take, length-drop}
 use lib.Seq.{drop-cons}
 use Rattle.numbers.specs.declared.math.Vec3.{Vec3}
