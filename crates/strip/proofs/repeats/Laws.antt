@@ -8,7 +8,7 @@ use native.Mathlib.Numerals.{add-one}
 use native.Mathlib.Omega.{arith}
 use lib.Ieee.{Float}
 use lib.ListN.{length, get_or, set, take, drop, length-append, drop_of_length-le}
-use lib.Seq.{append_snoc, drop-cons, take-length, length-take-le}
+use lib.Seq.{append_snoc, drop-cons, length-take-le}
 use Rattle.numbers.specs.declared.math.Vec3.{Vec3}
 use Rattle.lists.specs.Placed.{placed}
 use Rattle.lists.proofs.Placed.{placed-none, placed_grows}
@@ -165,9 +165,6 @@ module _ (ws : Corners Vec3) where
   pub record Trimming (r : ℕ) : Type 0 where
     pub far : r ≤ length ws
     pub is : drop_trailing same_at keep ws ≡ drop_trailing same_at keep (take r ws)
-
-  pub trimming : (r : ℕ) → r ≡ length ws → Trimming r
-  trimming r e = record { far = omega arith; is = ap (drop_trailing same_at keep) (sym (ap (λ (k : ℕ). take k ws) e ∙ take-length ws)) }
 
   stays : (r : ℕ) → Trimming r → drop_trailing same_at keep (take r ws) ≡ take r ws → r ≡ length (drop_trailing same_at keep ws)
   stays r w e = sym (ap length (w.is ∙ e) ∙ length-take-le r ws w.far)
