@@ -13,6 +13,7 @@ use records::check::wrong_header;
 use records::limits::version1;
 use records::refusal::Refusal;
 use results::write_result;
+use tables::corners::{Corner, ORIGIN};
 use tables::slices::shorter;
 
 pub mod entry;
@@ -23,7 +24,7 @@ fn write_loops(
     face: FilledFace,
     counts: &[usize],
     areas: &[f64],
-    t: &[f64],
+    t: &[Corner],
     res: &mut [u8],
 ) -> usize
     ensures { WrittenBytes face.path face.loops counts.now areas.now t.now res.old res.new result }
@@ -37,7 +38,7 @@ fn write_filled(
     face: FilledFace,
     counts: &[usize; 16],
     areas: &[f64; 16],
-    t: &[f64; 7680],
+    t: &[Corner; 1536],
     res: &mut [u8],
 ) -> usize
     ensures { WrittenBytes face.path face.loops counts.now areas.now t.now res.old res.new result }
@@ -67,7 +68,7 @@ pub fn close_face(record: &[u8], res: &mut [u8]) -> Result<usize, Refusal>
     if let Some(place) = wrong_header(record) {
         return Err(Refusal::WrongHeader(place));
     }
-    let mut t = [0.0; 7680];
+    let mut t = [ORIGIN; 1536];
     let mut counts = [0; 16];
     let mut areas = [0.0; 16];
     let filled = fill_face(record, &mut t, &mut counts, &mut areas)?;

@@ -15,6 +15,7 @@ use Rattle.surfaces.specs.declared.options.Resolved.{Resolved}
 use Rattle.surfaces.specs.declared.surface.Surface.{Surface}
 use Rattle.surfaces.specs.Domains.{u_period}
 use Rattle.tables.specs.Rows.{rows}
+use Rattle.tables.specs.declared.corners.Corner.{Corner as Held}
 use Rattle.loop_records.specs.declared.LoopRecord.{LoopRecord}
 use Rattle.loop_records.specs.Record.{no_loop}
 use Rattle.records.specs.Accepted.{Accepted}
@@ -69,7 +70,7 @@ module _ (s : List ℕ) (ds : List Condition) where
       by_place (at k) h ih = absurd (let z : ◌≡◌ {A = ℕ} 0 1 = cc in omega arith)
 
 -- a refusal is filled so, whatever the lent tables hold
-pub refused_by : (v : Verdict) (s : List ℕ) (r : Refusal) → refuses (refusal_number r) (refusal_place r) ≡ v → (counts : List ℕ) (areas t : List Float)
+pub refused_by : (v : Verdict) (s : List ℕ) (r : Refusal) → refuses (refusal_number r) (refusal_place r) ≡ v → (counts : List ℕ) (areas : List Float) (t : List Held)
     → FillsTo v s (Err r) counts areas t
 refused_by v s r e counts areas t = record {
   answer = e;
@@ -80,11 +81,11 @@ refused_by v s r e counts areas t = record {
 -- ---- cs are judged first
 
 module _ (s : List ℕ) (cs ds : List Condition) where
-  pub refused_as : (r : Refusal) → refuses (refusal_number r) (refusal_place r) ≡ verdict cs s → (counts : List ℕ) (areas t : List Float)
+  pub refused_as : (r : Refusal) → refuses (refusal_number r) (refusal_place r) ≡ verdict cs s → (counts : List ℕ) (areas : List Float) (t : List Held)
       → FillsTo (verdict (cs ++ ds) s) s (Err r) counts areas t
   refused_as r e counts areas t = refused_by _ s r (sym (first_refuse s ds cs _ _ (sym e))) counts areas t
 
-  pub filled_as : passes ≡ verdict cs s → (r : Result FilledFace Refusal) (counts : List ℕ) (areas t : List Float) → FillsTo (verdict ds s) s r counts areas t
+  pub filled_as : passes ≡ verdict cs s → (r : Result FilledFace Refusal) (counts : List ℕ) (areas : List Float) (t : List Held) → FillsTo (verdict ds s) s r counts areas t
       → FillsTo (verdict (cs ++ ds) s) s r counts areas t
   filled_as e r counts areas t = subst (λ (v : Verdict). FillsTo v s r counts areas t) (sym (first_pass s ds cs (sym e)))
 
@@ -93,7 +94,7 @@ accepted_as s e = (accepted_exactly s version1).0 (sym e)
 
 -- ---- the three paths
 
-module _ (s : List ℕ) (a : Accepted version1 s) (head : List Float) (counts : List ℕ) (t : List Float) (read : ReadAs s head counts t) where
+module _ (s : List ℕ) (a : Accepted version1 s) (head : List Float) (counts : List ℕ) (t : List Held) (read : ReadAs s head counts t) where
   pub counted : length counts ≡ loops s
   counted = ap length read.counts_are ∙ length-counts s
 
@@ -132,7 +133,7 @@ module _ (s : List ℕ) (a : Accepted version1 s) (head : List Float) (counts : 
   unfolding sense_in
   sense_in_lem sense sense_is = ap (λ (k : ℕ). k =? 1) sense_is
 
-  module _ (r : Result FilledFace Refusal) (counts' : List ℕ) (areas' t' : List Float) (f : FillsTo passes s r counts' areas' t') where
+  module _ (r : Result FilledFace Refusal) (counts' : List ℕ) (areas' : List Float) (t' : List Held) (f : FillsTo passes s r counts' areas' t') where
     unwrapped : wrapping s ≡ 0 → FillsTo (verdict (strip_conditions version1) s) s r counts' areas' t'
     unwrapped e = subst (λ (v : Verdict). FillsTo v s r counts' areas' t') (no_strip (λ two. omega arith)) f
 
@@ -146,7 +147,7 @@ module _ (s : List ℕ) (a : Accepted version1 s) (head : List Float) (counts : 
     pub none-wraps : n ≡ 0 → wrapping s ≡ 0
     none-wraps e = wrap_many ∙ e
 
-    pub closed_filled : n ≡ 0 → (r : Result FilledFace Refusal) (counts' : List ℕ) (areas' t' : List Float) → FillsTo passes s r counts' areas' t'
+    pub closed_filled : n ≡ 0 → (r : Result FilledFace Refusal) (counts' : List ℕ) (areas' : List Float) (t' : List Held) → FillsTo passes s r counts' areas' t'
         → FillsTo (verdict (strip_conditions version1) s) s r counts' areas' t'
     closed_filled e r counts' areas' t' f = unwrapped r counts' areas' t' f (none-wraps e)
 

@@ -12,6 +12,7 @@ use Rattle.surfaces.specs.declared.options.Resolved.{Resolved}
 use Rattle.surfaces.specs.declared.surface.Surface.{Surface}
 use Rattle.tables.specs.Corners.{Corners}
 use Rattle.tables.specs.Rows.{rows}
+use Rattle.tables.specs.declared.corners.Corner.{Corner as Held}
 use Rattle.tables.proofs.Rows.{length-rows}
 use Rattle.full_domain.specs.Boundary.{whole_corners, whole_area, area_within}
 use Rattle.full_domain.specs.Table.{placed_corner, whole_rows}
@@ -40,9 +41,9 @@ module _ (s : List ℕ) (bare : loops s ≡ 0) (surface : Surface) (frame : Fram
   unfolding whole_rows
   rows_many = length-map (whole_corners surface options) (placed_corner surface frame)
 
-  pub whole_filled : (c₀ c : List ℕ) (a₀ a t₀ t : List Float) (n : ℕ) (area : Float) → n ≡ length (whole_corners surface options) → area ≡ area_within (length (rows t₀)) surface options
+  pub whole_filled : (c₀ c : List ℕ) (a₀ a : List Float) (t₀ t : List Held) (n : ℕ) (area : Float) → n ≡ length (whole_corners surface options) → area ≡ area_within (length (rows t₀)) surface options
       → c ≡ set c₀ 0 n → a ≡ set a₀ 0 area → rows t ≡ placed 0 (whole_rows surface frame options) (rows t₀)
-      → length c₀ ≡ 16 → length a₀ ≡ 16 → length t₀ ≡ 7680 → FillsTo passes s (Ok (record { path = Whole; loops = 1 })) c a t
+      → length c₀ ≡ 16 → length a₀ ≡ 16 → length t₀ ≡ 1536 → FillsTo passes s (Ok (record { path = Whole; loops = 1 })) c a t
   unfolding corners_of
   whole_filled c₀ c a₀ a t₀ t n area n_is area_is c_is a_is t_is c-room a-room t-room =
       let few = few-corners surface options in
