@@ -2,18 +2,17 @@
 use mathlib.Core.Path.{◌≡◌, refl, sym, ap, ◌∙◌}
 use mathlib.Core.List.{List, map}
 use Prim.Native.Nat.{ℕ, ◌+◌, ◌*◌, ◌≤◌, ◌<◌}
-use native.Mathlib.Nat.{mul-le-mul_left}
 use native.Mathlib.Omega.{arith}
-use lib.ListN.{length, get_or, set, length-map, get_or-map}
+use lib.ListN.{length, get_or, set, length-map, length-set, get_or-map}
 use lib.Seq.{take_all}
 use lib.Ieee.{Float, nan}
 use Rattle.lists.proofs.Filling as lists
 use Rattle.records.specs.Bytes.{u16_at, real_at, uv_at, xyz_at, row_at}
 use Rattle.numbers.specs.declared.math.Vec2.{Vec2}
-use Rattle.numbers.specs.declared.math.Vec3.{Vec3}
-use Rattle.tables.specs.Corners.{Corner}
-use Rattle.tables.specs.Rows.{rows, none}
+use Rattle.tables.specs.Rows.{rows, corner_of, none}
+use Rattle.tables.specs.declared.corners.Corner.{Corner as Held}
 use Rattle.tables.proofs.CornersFrom.{length_from, corner-from}
+use Rattle.tables.proofs.Rows.{rows-set}
 use Rattle.records.specs.Face.{header_size, head_reals, loops, count, counts, head, points, real_place, parameters, positions, u_of, v_of, corners_in, corner_at}
 use Rattle.records.specs.Lent.{front, CornersRoom}
 use Rattle.records.proofs.Rows.{length-row_at, get_or-row_at}
@@ -71,18 +70,6 @@ module _ {s : List ℕ} {base off w n : ℕ} {d₀ : List Float} where
       record { next = omega arith; inside = h; all = a; filling = filling_start (omega arith) }
 
   module _ {d : List Float} {p i : ℕ} (c : Column s base off w n d₀ d p i) where
-    pub column_long : length d ≡ length d₀
-    column_long = c.filling.long
-
-    -- the next real is in the record
-    pub column_inside : i < n → p + 8 ≤ length s
-    column_inside h =
-        let m : w * (i + 1) ≤ w * n = mul-le-mul_left w (omega arith) in
-        let a = c.next in
-        let b = c.inside in
-        let e = c.all in
-        omega arith
-
     pub column_turn : {x : Float} → i < n → x ≡ real_at s p → Column s base off w n d₀ (set d i x) (p + w) (i + 1)
     column_turn h e =
         let l = length-row_at real_at w s (base + off) n in
@@ -153,14 +140,14 @@ unfolding corner_at uv_at xyz_at
 corner_read s p q u v x y z eu ev ex ey ez = λ i. record { u = eu i; v = ev i; at = record { x = ex i; y = ey i; z = ez i } }
 
 -- i corners are read: p is where the parameters begin, and q where the positions do
-pub record Reading (s : List ℕ) (n p q : ℕ) (t₀ t : List Float) (i : ℕ) : Type 0 where
+pub record Reading (s : List ℕ) (n p q : ℕ) (t₀ t : List Held) (i : ℕ) : Type 0 where
   pub room : CornersRoom s n t₀
   pub p_is : p ≡ real_place s head_reals
   pub q_is : q ≡ p + 16 * n
   pub long : length t ≡ length t₀
   pub filling : Filling (corners_in s) (rows t₀) (rows t) i
 
-module _ {s : List ℕ} {n p q : ℕ} {t₀ : List Float} where
+module _ {s : List ℕ} {n p q : ℕ} {t₀ : List Held} where
   pub reading_start : CornersRoom s n t₀ → p ≡ real_place s head_reals → q ≡ p + 16 * n → Reading s n p q t₀ t₀ 0
   reading_start w e f =
       let l = length-corners s in
@@ -168,23 +155,20 @@ module _ {s : List ℕ} {n p q : ℕ} {t₀ : List Float} where
       let r = w.room in
       record { room = w; p_is = e; q_is = f; long = refl; filling = filling_start (omega arith) }
 
-  module _ {t : List Float} {i : ℕ} (r : Reading s n p q t₀ t i) where
-    pub reading_inside : i < n → (p + 16 * i + 16 ≤ length s) × (q + 24 * i + 24 ≤ length s)
-    reading_inside h =
-        let m = r.room.many in
-        let l = r.room.there in
-        let e = r.p_is in
-        let f = r.q_is in
-        (omega arith, omega arith)
-
-    pub reading_turn : {t' : List Float} {c : Corner Vec3} → i < n → c ≡ corner_at s (p + 16 * i) (q + 24 * i) → length t' ≡ length t → rows t' ≡ set (rows t) i c
-        → Reading s n p q t₀ t' (i + 1)
-    reading_turn {t'} {c} h e l u =
+  module _ {t : List Held} {i : ℕ} (r : Reading s n p q t₀ t i) where
+    pub reading_turn : {c : Held} → i < n → corner_of c ≡ corner_at s (p + 16 * i) (q + 24 * i) → Reading s n p q t₀ (set t i c) (i + 1)
+    reading_turn {c} h e =
         let m = r.room.many in
         let k = length-corners s in
         let at : q ≡ real_place s (head_reals + 2 * points s) = let a = r.p_is in let b = r.q_is in omega arith in
-        let is : c ≡ get_or (corners_in s) i none = e ∙ (λ j. corner_at s (r.p_is j + 16 * i) (at j + 24 * i)) ∙ sym (corner_is s i (omega arith)) in
-        record { room = r.room; p_is = r.p_is; q_is = r.q_is; long = l ∙ r.long; filling = rw u (filling_turn r.filling none (omega arith) is) }
+        let is : corner_of c ≡ get_or (corners_in s) i none = e ∙ (λ j. corner_at s (r.p_is j + 16 * i) (at j + 24 * i)) ∙ sym (corner_is s i (omega arith)) in
+        record {
+          room = r.room;
+          p_is = r.p_is;
+          q_is = r.q_is;
+          long = length-set t i c ∙ r.long;
+          filling = rw (rows-set t i c) (filling_turn r.filling none (omega arith) is);
+        }
 
     pub reading_end : n ≤ i → rows t ≡ front (corners_in s) (rows t₀)
     reading_end h = let m = r.room.many in let k = length-corners s in filling_end r.filling (omega arith)

@@ -11,6 +11,7 @@ use Rattle.std.specs.Prelude.{Some, None}
 use Rattle.records.specs.Bytes.{◌≤?◌, real_at, row_at}
 use Rattle.records.specs.Face.{header_size, head_reals, loops, counts, head, points, real_place, needed, corners_in}
 use Rattle.tables.specs.Rows.{rows}
+use Rattle.tables.specs.declared.corners.Corner.{Corner as Held}
 use Rattle.records.specs.Lent.{front, filled_if, counts_there, counts_fit, head_fits, points_fit, ReadInto, CornersRoom, CountsRead, HeadRead, CornersRead}
 use Rattle.records.proofs.Columns.{length-counts, length-head, column_head, length-corners}
 
@@ -88,7 +89,7 @@ head_filled s {p} e d h =
 
 -- ---- corners
 
-module _ (s : List ℕ) (t : List Float) where
+module _ (s : List ℕ) (t : List Held) where
   corners_short : length s < needed s → CornersRead s t t None
   unfolding points_fit
   corners_short h = kept (rw (lt-leb (needed s) (length s) h))
@@ -107,7 +108,7 @@ module _ (s : List ℕ) (t : List Float) where
     pub corners_room : {p : ℕ} → p ≡ needed s → p ≤ length s → n ≤ m → CornersRoom s n t
     corners_room q h r = record { many = e; there = omega arith; room = omega arith }
 
-  pub corners_read : {n : ℕ} (t' : List Float) → CornersRoom s n t → rows t' ≡ front (corners_in s) (rows t) → CornersRead s t t' (Some n)
+  pub corners_read : {n : ℕ} (t' : List Held) → CornersRoom s n t → rows t' ≡ front (corners_in s) (rows t) → CornersRead s t t' (Some n)
   unfolding points_fit
   corners_read t' w is =
       let m = w.many in

@@ -2,6 +2,7 @@
 use Rattle.std.specs.Prelude.{◌≡◌, Bool, ◌&&◌, cond, List, ◌++◌, ℕ, ◌+◌, ◌*◌, ◌≤◌, length, drop, Float, Option}
 use Rattle.std.specs.Bool.{then_some}
 use Rattle.tables.specs.Rows.{rows}
+use Rattle.tables.specs.declared.corners.Corner.{Corner}
 use Rattle.records.specs.Bytes.{◌≤?◌}
 use Rattle.records.specs.Face.{header_size, head_reals, loops, counts, head, points, real_place, needed, corners_in}
 
@@ -33,7 +34,7 @@ pub record ReadInto {A : Type 0} (fits : Bool) (w d d' : List A) (r : Option ℕ
   pub is : d' ≡ filled_if fits w d
 
 -- the points of s are there, n of them, and fit
-pub record CornersRoom (s : List ℕ) (n : ℕ) (t : List Float) : Type 0 where
+pub record CornersRoom (s : List ℕ) (n : ℕ) (t : List Corner) : Type 0 where
   pub many : n ≡ points s
   pub there : needed s ≤ length s
   pub room : n ≤ length (rows t)
@@ -46,5 +47,5 @@ CountsRead s d = ReadInto (counts_fit s (length d)) (counts s) d
 abbrev pub HeadRead : List ℕ → (d d' : List Float) → Option ℕ → Type 0
 HeadRead s d = ReadInto (head_fits s (length d)) (head s) d
 
-abbrev pub CornersRead : List ℕ → (t t' : List Float) → Option ℕ → Type 0
+abbrev pub CornersRead : List ℕ → (t t' : List Corner) → Option ℕ → Type 0
 CornersRead s t t' = ReadInto (points_fit s (length (rows t))) (corners_in s) (rows t) (rows t')

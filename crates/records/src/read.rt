@@ -9,7 +9,7 @@ ghost use Rattle.records.specs.Lent.{front, counts_there, CountsRead, HeadRead, 
 
 use super::{HEAD_REALS, HEADER_SIZE, count_at, loops, points, real_at};
 use numbers::math::Vec3;
-use tables::corners::{Corner, count, put_corner};
+use tables::corners::{Corner, count};
 
 // The byte at i, 0 past the end.
 fn byte_at(s: &[u8], i: usize) -> u8
@@ -111,19 +111,19 @@ fn corner_in(face: &[u8], p: usize, q: usize) -> Corner
 }
 
 // The corners, where there is room for them.
-fn fill_corners(face: &[u8], n: usize, t: &mut [f64])
+fn fill_corners(face: &[u8], n: usize, t: &mut [Corner])
     requires { CornersRoom face.now n t.old }
     ensures { rows t.new ≡ front (corners_in face.now) (rows t.old) }
 {
     let uv = HEADER_SIZE + 2 * loops(face) + 8 * HEAD_REALS;
     let xyz = uv + 16 * n;
     for i in 0..n {
-        put_corner(t, i, corner_in(face, uv + 16 * i, xyz + 24 * i));
+        t[i] = corner_in(face, uv + 16 * i, xyz + 24 * i);
     }
 }
 
 // The corners of all loops in file order, a row each.
-pub fn read_corners(face: &[u8], t: &mut [f64]) -> Option<usize>
+pub fn read_corners(face: &[u8], t: &mut [Corner]) -> Option<usize>
     ensures { CornersRead face.now t.old t.new result }
 {
     if !counts_there(face) {
