@@ -47,7 +47,8 @@ fn write_filled(
 }
 
 // The face record is closed into the front of the lent bytes, and the length of the result record
-// answered, or it is refused; refused, the lent bytes keep their values. The first two clauses say what is returned and what the lent bytes are then, by
+// answered, or it is refused; refused, the lent bytes keep their values. The first two clauses say what
+// is returned and what the lent bytes are then, by
 // the definition of the whole call: demand 2, where that definition is what the Rust computes. The next
 // two are the demands 1 and 3 of the pair and the bytes, 3 wherever the holes lie (02, N4), then what
 // 02, N2 adds of whole surfaces. The last goes beyond 01: every real of a result is finite and at most
