@@ -1,8 +1,8 @@
 // The face record as bytes: its limits, its check, and reading it.
 #![tactic(auto)]
 
-ghost use Rattle.std.specs.Prelude.{◌≡◌, ◌+◌, ◌*◌, ◌^◌, ◌≤◌, ◌<◌, length, get_or};
-ghost use Rattle.records.specs.Bytes.{number_at, real_at};
+ghost use Rattle.std.specs.Prelude.{◌≡◌, ◌+◌, ◌*◌, ◌≤◌, ◌<◌, length, take, drop};
+ghost use Rattle.records.specs.Bytes.{real_at};
 ghost use Rattle.records.specs.Face.{header_size, loops, count, points};
 
 use numbers::bits;
@@ -19,16 +19,14 @@ const HEAD_REALS: usize = 13;
 
 const MIN_POINTS: usize = 3;
 
-// The number in the w bytes from `at` on.
-fn number_at(s: &[u8], at: usize, w: usize) -> u64
-    requires { (w ≤ 8) × (at + w ≤ length s.now) }
-    ensures { (result ≡ number_at w s.now at) × (result < 256 ^ w) }
+// The W bytes from `at` on.
+fn bytes_at<const W: usize>(s: &[u8], at: usize) -> [u8; W]
+    requires { at + W ≤ length s.now }
+    ensures { result ≡ take W (drop at s.now) }
 {
-    let mut n = 0;
-    for i in (0..w).rev() {
-        n = 256 * n + u64::from(s[at + i]);
-    }
-    n
+    let mut bytes = [0; W];
+    bytes.copy_from_slice(&s[at..at + W]);
+    bytes
 }
 
 // The real in the 8 bytes from `at` on; whatever NaN stands there, it is a NaN.
@@ -36,7 +34,7 @@ fn real_at(s: &[u8], at: usize) -> f64
     requires { at + 8 ≤ length s.now }
     ensures { result ≡ real_at s.now at }
 {
-    bits::from_bits(number_at(s, at, 8)).unwrap_or(f64::NAN)
+    bits::from_bits(u64::from_le_bytes(bytes_at(s, at))).unwrap_or(f64::NAN)
 }
 
 fn loops(face: &[u8]) -> usize
@@ -47,11 +45,12 @@ fn loops(face: &[u8]) -> usize
 }
 
 // How many points loop k has.
+#[tactic(auto, using(crate::proofs::Numbers::two_at))]
 fn count_at(face: &[u8], k: usize) -> usize
     requires { header_size + 2 * k + 2 ≤ length face.now }
     ensures { (result ≡ count face.now k) × (result < 65536) }
 {
-    number_at(face, HEADER_SIZE + 2 * k, 2) as usize
+    usize::from(u16::from_le_bytes(bytes_at(face, HEADER_SIZE + 2 * k)))
 }
 
 fn points(face: &[u8]) -> usize

@@ -13,6 +13,7 @@ use Rattle.records.specs.Result.{encode, decode, Short, Fits, FitsUv, FitsXyz, W
 use Rattle.records.specs.Lent.{filled_if}
 use Rattle.tables.specs.Corners.{Corner, Corners, uv_of, positions}
 use Rattle.tables.specs.Rows.{rows}
+use Rattle.tables.specs.declared.corners.Corner.{Corner as Held}
 use Rattle.records.proofs.RoundTrip.{decode-encode}
 use Rattle.results.specs.Written.{table_result, all_short, header_holds, length_of, result_fits, Fitting}
 use Rattle.results.proofs.Whole.{and_fst, and_snd, area_each, pair_each, position_each}
@@ -48,7 +49,7 @@ all_short_lem (n ∷ ns) e = go (n <? 65536) refl e (all_short_lem ns)
 
 -- ---- what fits can be written, and is read back
 
-module _ (counts : List ℕ) (areas t : List Float) (out : List ℕ) (fits : result_fits counts (length areas) (length (rows t)) (length out) ≡ true) where
+module _ (counts : List ℕ) (areas : List Float) (t : List Held) (out : List ℕ) (fits : result_fits counts (length areas) (length (rows t)) (length out) ≡ true) where
   header : header_holds counts ≡ true
   unfolding result_fits
   header = and_fst (header_holds counts) _ fits

@@ -1,5 +1,5 @@
 pub mod Stores
-pub mod Columns
+pub mod Corners
 pub mod Rows
 pub mod Sizes
 pub mod Whole

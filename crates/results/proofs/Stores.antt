@@ -1,48 +1,41 @@
 -- Bytes stored one after another: what is stored, with what remains to be stored, is the whole.
 use mathlib.Core.Path.{◌≡◌, refl, sym, ap, ◌∙◌}
 use mathlib.Core.List.{List, ◌++◌}
-use Prim.Native.Nat.{ℕ, suc, ◌+◌, ◌-◌, ◌*◌, ◌/◌, ◌%◌, ◌≤◌, ◌<◌}
+use Prim.Native.Nat.{ℕ, ◌+◌, ◌-◌, ◌*◌, ◌/◌, ◌≤◌, ◌<◌}
 use native.Mathlib.Numerals.{add-one}
 use native.Mathlib.Omega.{arith}
-use lib.ListN.{length, get_or, drop, set, length-set, drop_of_length-le}
-use lib.Seq.{sets, length-sets, drop-cons}
+use Rattle.std.proofs.Common.{append_assoc}
+use lib.ListN.{length, get_or, take, drop, drop_of_length-le}
+use lib.Seq.{sets, sets-eq, length-sets, drop-cons, drop-drop}
 use lib.Ieee.{Float, binary64, to_bits}
 use Rattle.lists.proofs.Stores.{sets-append}
+use Rattle.std.specs.Int.{w64, to_le_bytes}
 use Rattle.records.specs.Bytes.{bytes, real, row}
 
--- ---- one number: i of its w bytes are stored, `rest` holds the others
+-- ---- bytes put where they go
 
-pub record Putting (out₀ : List ℕ) (p w n : ℕ) (out : List ℕ) (rest i : ℕ) : Type 0 where
-  pub far : i ≤ w
-  pub room : p + w ≤ length out₀
-  pub long : length out ≡ length out₀
-  pub is : sets out (p + i) (bytes (w - i) rest) ≡ sets out₀ p (bytes w n)
+-- what a copy into a part of the lent bytes leaves
+pub put_part : (out w : List ℕ) (p e : ℕ) → e ≡ p + length w → e ≤ length out → take p out ++ (w ++ drop (e - p) (drop p out)) ≡ sets out p w
+put_part out w p e q h =
+    let n : p + (e - p) ≡ p + length w = omega arith in
+    ap (λ (r : List ℕ). take p out ++ (w ++ r)) (drop-drop (e - p) p out ∙ ap (λ (k : ℕ). drop k out) n)
+    ∙ rw (sets-eq w out p (omega arith), append_assoc)
 
-module _ {out₀ : List ℕ} {p w n : ℕ} where
-  pub put-start : p + w ≤ length out₀ → Putting out₀ p w n out₀ n 0
-  put-start h =
-      let e : p + 0 ≡ p = omega arith in
-      let f : w - 0 ≡ w = omega arith in
-      record { far = omega arith; room = h; long = refl; is = rw (e, f) }
+-- the bytes that `to_le_bytes` gives
+pub eight : (n : ℕ) → to_le_bytes w64 n ≡ bytes 8 n
+unfolding bytes
+eight n =
+    let c : n / 256 / 256 ≡ n / 65536 = omega arith in
+    let d : n / 256 / 256 / 256 ≡ n / 16777216 = omega arith in
+    let e : n / 256 / 256 / 256 / 256 ≡ n / 4294967296 = omega arith in
+    let f : n / 256 / 256 / 256 / 256 / 256 ≡ n / 1099511627776 = omega arith in
+    let g : n / 256 / 256 / 256 / 256 / 256 / 256 ≡ n / 281474976710656 = omega arith in
+    let h : n / 256 / 256 / 256 / 256 / 256 / 256 / 256 ≡ n / 72057594037927936 = omega arith in
+    rw (h, g, f, e, d, c)
 
-  module _ {out : List ℕ} {rest i : ℕ} (s : Putting out₀ p w n out rest i) where
-    pub put_turn : i < w → Putting out₀ p w n (set out (p + i) (rest % 256)) (rest / 256) (i + 1)
-    unfolding bytes
-    put_turn h =
-        let e : w - i ≡ suc (w - (i + 1)) = omega arith in
-        let f : suc (p + i) ≡ p + (i + 1) = omega arith in
-        record {
-          far = omega arith;
-          room = s.room;
-          long = length-set out (p + i) (rest % 256) ∙ s.long;
-          is =
-              ap (λ (k : ℕ). sets (set out (p + i) (rest % 256)) k (bytes (w - (i + 1)) (rest / 256))) (sym f)
-              ∙ ap (λ (m : ℕ). sets out (p + i) (bytes m rest)) (sym e) ∙ s.is;
-        }
-
-    pub put-end : w ≤ i → out ≡ sets out₀ p (bytes w n)
-    unfolding bytes
-    put-end h = let e : w - i ≡ 0 = omega arith in rw e at s.is
+pub as_real : (x : Float) → to_le_bytes w64 (to_bits binary64 x) ≡ real x
+unfolding real
+as_real x = eight (to_bits binary64 x)
 
 -- ---- things in a row: i of them are stored
 
@@ -72,12 +65,3 @@ module _ {A : Type 0} {write : A → List ℕ} {w : ℕ} (wide : (a : A) → len
     pub store_end : length xs ≤ i → out ≡ sets out₀ p (row write xs)
     unfolding row
     store_end h = rw (drop_of_length-le xs {i = i} h) at r.is
-
--- ---- reals, as code leaves them: n are the bits of x
-
-as_real : (n : ℕ) (x : Float) → n ≡ to_bits binary64 x → bytes 8 n ≡ real x
-unfolding real
-as_real n x e = ap (bytes 8) e
-
-pub put-real : (out out' : List ℕ) (p n : ℕ) (x : Float) → n ≡ to_bits binary64 x → out' ≡ sets out p (bytes 8 n) → out' ≡ sets out p (real x)
-put-real out out' p n x e f = f ∙ ap (sets out p) (as_real n x e)

@@ -19,16 +19,21 @@ use Rattle.results.specs.declared.Path.{Path}
 use Rattle.results.specs.declared.RecordSize.{RecordSize}
 use Rattle.std.specs.Prelude.{Some, None}
 use Rattle.std.specs.Bool.{then_some}
-use Rattle.results.specs.Written.{path_of, columns_of, table_result, header_holds, length_of, size_by, size_of, result_fits, Fitting, WrittenTo}
-use Rattle.tables.specs.Corners.{Corner, uv_of, positions}
+use Rattle.results.specs.Written.{path_of, table_result, header_holds, length_of, size_by, size_of, result_fits, Fitting, WrittenTo}
+use Rattle.tables.specs.Corners.{Corner, Corners, uv_of, positions}
 use Rattle.tables.specs.Rows.{rows}
-use Rattle.results.proofs.Columns.{columns_uv, columns_xyz}
+use Rattle.tables.specs.declared.corners.Corner.{Corner as Held}
+use Rattle.tables.proofs.Rows.{length-rows, rows_take}
 
 -- ---- the parts
 
-module _ {out counts : List ℕ} {areas : List Float} {m : ℕ} {t : List Float} (w : Fitting out counts areas m t) where
+module _ {out counts : List ℕ} {areas : List Float} {m : ℕ} {t : List Held} (w : Fitting out counts areas m t) where
   corners_long : length (take m (rows t)) ≡ m
   corners_long = length-take-le m (rows t) w.room
+
+  -- the rows that are taken from the front of the table
+  pub front_long : m ≡ length (take m t)
+  front_long = sym (length-take-le m t (let r = w.room in let l = length-rows t in omega arith))
 
   -- how many areas, parameters and positions there are
   pub area_each : length (take (length counts) areas) ≡ length counts
@@ -69,12 +74,12 @@ module _ {out counts : List ℕ} {areas : List Float} {m : ℕ} {t : List Float}
 
   -- a, b, c, d, e are the lent bytes after the header and after each row
   pub whole : (path : ℕ) {a b c d e : List ℕ} → a ≡ sets out 0 (1 ∷ path ∷ (n - 1) ∷ 0 ∷ []) → b ≡ sets a 4 C → c ≡ sets b (4 + 2 * n) A
-      → d ≡ sets c (4 + 10 * n) (row (columns_of 0 2) (take m (rows t))) → e ≡ sets d (4 + 10 * n + 16 * m) (row (columns_of 2 5) (take m (rows t)))
+      → d ≡ sets c (4 + 10 * n) (row uv (map uv_of (rows (take m t)))) → e ≡ sets d (4 + 10 * n + 16 * m) (row xyz (positions (rows (take m t))))
       → e ≡ front (encode (table_result path counts areas (rows t))) out
   unfolding encode table_result
   whole path {a} {b} {c} {d} {e} ea eb ec ed₀ ee₀ =
-      let ed : d ≡ sets c (4 + 10 * n) P = ed₀ ∙ ap (sets c (4 + 10 * n)) (columns_uv (take m (rows t))) in
-      let ee : e ≡ sets d (4 + 10 * n + 16 * m) X = ee₀ ∙ ap (sets d (4 + 10 * n + 16 * m)) (columns_xyz (take m (rows t))) in
+      let ed : d ≡ sets c (4 + 10 * n) P = ed₀ ∙ ap (sets c (4 + 10 * n)) (ap (λ (r : Corners Vec3). row uv (map uv_of r)) (rows_take m t)) in
+      let ee : e ≡ sets d (4 + 10 * n + 16 * m) X = ee₀ ∙ ap (sets d (4 + 10 * n + 16 * m)) (ap (λ (r : Corners Vec3). row xyz (positions r)) (rows_take m t)) in
       let start : List ℕ = 1 ∷ path ∷ (n - 1) ∷ 0 ∷ [] in
       let sc = size_C in
       let sa = size-A in
@@ -123,7 +128,7 @@ sized {counts} {size} e = go (header_holds counts) refl e
     go false h q = absurd (cc)
 
 -- behind the last test, with r the rows of the table
-pub fitting : {out counts : List ℕ} {areas t : List Float} {size : RecordSize} {r : ℕ} → Sized counts size → size.length ≤ length out
+pub fitting : {out counts : List ℕ} {areas : List Float} {t : List Held} {size : RecordSize} {r : ℕ} → Sized counts size → size.length ≤ length out
     → length counts ≤ length areas → r ≡ length (rows t) → size.corners ≤ r → Fitting out counts areas size.corners t
 unfolding header_holds
 fitting {counts = counts} s h a q l = record {
@@ -135,10 +140,10 @@ fitting {counts = counts} s h a q l = record {
   long = rw s.long at h;
 }
 
-abbrev fits : (counts : List ℕ) (areas t : List Float) (out : List ℕ) → Bool
+abbrev fits : (counts : List ℕ) (areas : List Float) (t : List Held) (out : List ℕ) → Bool
 fits counts areas t out = result_fits counts (length areas) (length (rows t)) (length out)
 
-module _ {path : Path} {counts : List ℕ} {areas t : List Float} {out : List ℕ} where
+module _ {path : Path} {counts : List ℕ} {areas : List Float} {t : List Held} {out : List ℕ} where
   kept : fits counts areas t out ≡ false → WrittenTo path counts areas t out out None
   unfolding filled_if
   kept e = record { answer = rw e; is = rw e }

@@ -1,13 +1,14 @@
 -- What the writer of result records is lent, answers and leaves.
-use Rattle.std.specs.Prelude.{◌≡◌, Bool, true, ◌&&◌, List, [], ◌∷◌, map, ℕ, ◌-◌, ◌≤◌, length, take, drop, Float, Option}
+use Rattle.std.specs.Prelude.{◌≡◌, Bool, true, ◌&&◌, List, [], ◌∷◌, map, ℕ, ◌-◌, ◌≤◌, length, take, Float, Option}
 use Rattle.std.specs.Bool.{then_some}
 use Rattle.numbers.specs.declared.math.Vec3.{Vec3}
-use Rattle.records.specs.Bytes.{◌<?◌, ◌≤?◌, real, row}
+use Rattle.records.specs.Bytes.{◌<?◌, ◌≤?◌}
 use Rattle.lists.specs.Elements.{sum}
 use Rattle.records.specs.Result.{Result, encode, result_length}
 use Rattle.records.specs.Lent.{filled_if}
-use Rattle.tables.specs.Corners.{Corner, Corners, uv_of, positions}
-use Rattle.tables.specs.Rows.{rows, reals_of}
+use Rattle.tables.specs.Corners.{Corners, uv_of, positions}
+use Rattle.tables.specs.Rows.{rows}
+use Rattle.tables.specs.declared.corners.Corner.{Corner as Held}
 use Rattle.results.specs.declared.Path.{Path}
 use Rattle.results.specs.declared.Path.TheVariants.{Closed, Wrapped, Whole}
 use Rattle.results.specs.declared.RecordSize.{RecordSize}
@@ -19,10 +20,6 @@ path_of Wrapped = 1
 path_of Whole = 2
 
 -- ---- the result that a table holds
-
--- the reals of a corner from one up to another, as bytes
-unfoldable pub columns_of : ℕ → ℕ → Corner Vec3 → List ℕ
-columns_of from to c = row real (take (to - from) (drop from (reals_of c)))
 
 -- one area for each count, and as many corners as the counts say, from the front of the table
 unfoldable pub table_result : ℕ → List ℕ → List Float → Corners Vec3 → Result
@@ -55,13 +52,13 @@ size_of counts = then_some (header_holds counts) (size_by counts)
 unfoldable pub result_fits : List ℕ → (areas room lent : ℕ) → Bool
 result_fits counts areas room lent = header_holds counts && ((length_of counts ≤? lent) && ((length counts ≤? areas) && (sum counts ≤? room)))
 
-pub record WrittenTo (path : Path) (counts : List ℕ) (areas t : List Float) (out out' : List ℕ) (r : Option ℕ) : Type 0 where
+pub record WrittenTo (path : Path) (counts : List ℕ) (areas : List Float) (t : List Held) (out out' : List ℕ) (r : Option ℕ) : Type 0 where
   pub answer : r ≡ then_some (result_fits counts (length areas) (length (rows t)) (length out)) (length_of counts)
   pub is : out' ≡ filled_if (result_fits counts (length areas) (length (rows t)) (length out)) (encode (table_result (path_of path) counts areas (rows t))) out
 
 -- ---- the table holds a record of m corners, and it fits the lent bytes
 
-pub record Fitting (out counts : List ℕ) (areas : List Float) (m : ℕ) (t : List Float) : Type 0 where
+pub record Fitting (out counts : List ℕ) (areas : List Float) (m : ℕ) (t : List Held) : Type 0 where
   pub outer : 1 ≤ length counts
   pub few : length counts ≤ 256
   pub corners : m ≡ sum counts

@@ -3,16 +3,17 @@
 // written; where something lent is too short nothing is written.
 #![tactic(auto)]
 
-ghost use Rattle.std.specs.Prelude.{◌≡◌, ◌∷◌, [], ◌+◌, ◌-◌, ◌*◌, ◌≤◌, length, take};
+ghost use Rattle.std.specs.Prelude.{◌≡◌, ◌∷◌, [], ◌+◌, ◌*◌, ◌≤◌, map, length};
 ghost use Rattle.std.proofs.lemmas.List.Edits.{sets};
-ghost use Rattle.records.specs.Bytes.{bytes, u16, real, row};
+ghost use Rattle.records.specs.Bytes.{u16, real, uv, xyz, row};
 ghost use Rattle.records.specs.Result.{encode};
 ghost use Rattle.records.specs.Lent.{front};
+ghost use Rattle.tables.specs.Corners.{uv_of, positions};
 ghost use Rattle.tables.specs.Rows.{rows};
-ghost use Rattle.results.specs.Written.{path_of, columns_of, table_result, size_of, Fitting, WrittenTo};
+ghost use Rattle.results.specs.Written.{path_of, table_result, size_of, Fitting, WrittenTo};
 
 use numbers::bits;
-use tables::corners::count;
+use tables::corners::{Corner, count};
 
 #[derive(Clone, Copy)]
 pub enum Path {
@@ -65,16 +66,12 @@ pub fn result_size(counts: &[usize]) -> Option<RecordSize>
     })
 }
 
-// The w lowest bytes of n, the lowest first, from `at` on.
-fn put(out: &mut [u8], at: usize, w: usize, n: u64)
-    requires { at + w ≤ length out.old }
-    ensures { out.new ≡ sets out.old at (bytes w n) }
+#[tactic(auto, using(crate::proofs::Stores::put_part))]
+fn put(out: &mut [u8], at: usize, bytes: &[u8])
+    requires { at + length bytes.now ≤ length out.old }
+    ensures { out.new ≡ sets out.old at bytes.now }
 {
-    let mut rest = n;
-    for i in 0..w {
-        out[at + i] = (rest % 256) as u8;
-        rest /= 256;
-    }
+    out[at..at + bytes.len()].copy_from_slice(bytes);
 }
 
 // Version, path, holes, zero.
@@ -82,10 +79,7 @@ fn put_head(out: &mut [u8], path: u8, holes: u8)
     requires { 4 ≤ length out.old }
     ensures { out.new ≡ sets out.old 0 (1 ∷ path ∷ holes ∷ 0 ∷ []) }
 {
-    out[0] = 1;
-    out[1] = path;
-    out[2] = holes;
-    out[3] = 0;
+    put(out, 0, &[1, path, holes, 0]);
 }
 
 fn put_counts(out: &mut [u8], at: usize, counts: &[usize])
@@ -93,7 +87,8 @@ fn put_counts(out: &mut [u8], at: usize, counts: &[usize])
     ensures { out.new ≡ sets out.old at (row u16 counts.now) }
 {
     for (i, count) in counts.iter().enumerate() {
-        put(out, at + 2 * i, 2, *count as u64);
+        let [low, high, ..] = count.to_le_bytes();
+        put(out, at + 2 * i, &[low, high]);
     }
 }
 
@@ -102,28 +97,30 @@ fn put_reals(out: &mut [u8], at: usize, xs: &[f64])
     ensures { out.new ≡ sets out.old at (row real xs.now) }
 {
     for (i, x) in xs.iter().enumerate() {
-        put(out, at + 8 * i, 8, bits::to_bits(*x));
+        put(out, at + 8 * i, &bits::to_bits(*x).to_le_bytes());
     }
 }
 
-// Of each of the first m rows the reals from one up to another, row behind row: 0 to 2 are the
-// parameters, 2 to 5 the position.
-fn put_columns(out: &mut [u8], at: usize, t: &[f64], m: usize, from: usize, to: usize)
-    requires { (from ≤ to) × (to ≤ 5) × (m ≤ length (rows t.now)) × (at + 8 * (to - from) * m ≤ length out.old) }
-    ensures { out.new ≡ sets out.old at (row (columns_of from to) (take m (rows t.now))) }
+fn put_parameters(out: &mut [u8], at: usize, t: &[Corner])
+    requires { at + 16 * length t.now ≤ length out.old }
+    ensures { out.new ≡ sets out.old at (row uv (map uv_of (rows t.now))) }
 {
-    let width = 8 * (to - from);
-    let mut p = at;
-    for i in 0..m {
-        let a = 5 * i + from;
-        let e = 5 * i + to;
-        put_reals(out, p, &t[a..e]);
-        p += width;
+    for (i, c) in t.iter().enumerate() {
+        put_reals(out, at + 16 * i, &[c.u, c.v]);
+    }
+}
+
+fn put_positions(out: &mut [u8], at: usize, t: &[Corner])
+    requires { at + 24 * length t.now ≤ length out.old }
+    ensures { out.new ≡ sets out.old at (row xyz (positions (rows t.now))) }
+{
+    for (i, c) in t.iter().enumerate() {
+        put_reals(out, at + 24 * i, &[c.at.x, c.at.y, c.at.z]);
     }
 }
 
 // The whole record, where all fits: m is the number of corners.
-fn put_result(out: &mut [u8], path: u8, counts: &[usize], areas: &[f64], m: usize, t: &[f64])
+fn put_result(out: &mut [u8], path: u8, counts: &[usize], areas: &[f64], m: usize, t: &[Corner])
     requires { Fitting out.old counts.now areas.now m t.now }
     ensures { out.new ≡ front (encode (table_result path counts.now areas.now (rows t.now))) out.old }
 {
@@ -131,8 +128,8 @@ fn put_result(out: &mut [u8], path: u8, counts: &[usize], areas: &[f64], m: usiz
     put_head(out, path, (n - 1) as u8);
     put_counts(out, 4, counts);
     put_reals(out, 4 + 2 * n, &areas[..n]);
-    put_columns(out, 4 + 10 * n, t, m, 0, 2);
-    put_columns(out, 4 + 10 * n + 16 * m, t, m, 2, 5);
+    put_parameters(out, 4 + 10 * n, &t[..m]);
+    put_positions(out, 4 + 10 * n + 16 * m, &t[..m]);
 }
 
 // One count and one area for each loop, the outer loop first, and all corners, loop by loop. Areas and
@@ -141,7 +138,7 @@ pub fn write_result(
     path: Path,
     counts: &[usize],
     areas: &[f64],
-    t: &[f64],
+    t: &[Corner],
     out: &mut [u8],
 ) -> Option<usize>
     ensures { WrittenTo path counts.now areas.now t.now out.old out.new result }

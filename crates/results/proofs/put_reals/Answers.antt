@@ -3,7 +3,7 @@ use Rattle.results.proofs.Rows as rows
 use Rattle.results.proofs.put_reals.Goals as goal
 
 pub loop-i-preserved : goal.loop-i-preserved
-loop-i-preserved c = (omega arith, rows.reals_turn c.loop-i.invariant.1 c.loop-i-test.true c.to_bits.ensures c.put.ensures)
+loop-i-preserved c = (omega arith, rows.reals_turn c.loop-i.invariant.1 c.loop-i-test.true c.to_bits.ensures c.to_le_bytes.ensures c.put.ensures)
 
 pub returns : goal.returns
 returns c = rows.reals-end c.loop-i.invariant.1 c.loop-i-test.false

@@ -1,10 +1,16 @@
 use Rattle.results.proofs.Whole as whole
 use Rattle.results.proofs.put_result.Goals as goal
 
+pub slice_bounds-put_parameters-end : goal.slice_bounds-put_parameters-end
+slice_bounds-put_parameters-end c = whole.front_long c.requires
+
+pub slice_bounds-put_positions-end : goal.slice_bounds-put_positions-end
+slice_bounds-put_positions-end c = whole.front_long c.requires
+
 pub returns : goal.returns
 returns c = whole.whole c.requires
     _
     c.put_head.ensures
     c.put_counts.ensures
     c.put_reals.ensures
-    c.put_columns.ensures c.put_columns-2.ensures
+    c.put_parameters.ensures c.put_positions.ensures

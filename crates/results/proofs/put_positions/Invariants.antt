@@ -1,0 +1,8 @@
+use Prim.Native.Nat.{◌≤◌}
+use lib.ListN.{length}
+use Rattle.results.proofs.Corners.{xyz_bytes}
+use Rattle.results.proofs.Stores.{Storing}
+use Rattle.results.proofs.put_positions.Given as goal
+
+abbrev pub invariant-loop-i : goal.invariant-loop-i
+invariant-loop-i l = (l.i ≤ length l.t) × Storing xyz_bytes 24 l.initial.out l.at l.t l.out l.i
