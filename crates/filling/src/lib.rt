@@ -200,7 +200,8 @@ fn band_of(
     )
 }
 
-// The wrapped path: a face of which two loops wrap. The result has one loop fewer, the two rings being one of its loops.
+// The wrapped path: a face of which two loops wrap. The result has one loop fewer, the two rings being
+// one of its loops.
 fn fill_band(
     corners: &[f64],
     given: &[usize],
