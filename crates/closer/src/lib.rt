@@ -46,14 +46,13 @@ fn write_filled(
     write_loops(face, counts, areas, t, res)
 }
 
-// The face record is closed into the front of the lent bytes, and the length of the result record
-// answered, or it is refused; refused, the lent bytes keep their values. The first two clauses say what
-// is returned and what the lent bytes are then, by
-// the definition of the whole call: demand 2, where that definition is what the Rust computes. The next
-// two are the demands 1 and 3 of the pair and the bytes, 3 wherever the holes lie (02, N4), then what
-// 02, N2 adds of whole surfaces. The last goes beyond 01: every real of a result is finite and at most
-// 10^24 in size, as 02, N9 asks of results. The tables are those of version 1: a strip of 1,024 corners
-// and 512 points of holes, and 16 loops.
+// The face record is closed into the front of the lent bytes, and the length of the result record is
+// answered; or it is refused, and the lent bytes keep their values. The first two clauses say what is
+// returned and what the lent bytes are then, by the definition of the whole call: demand 2, where that
+// definition is what the Rust computes. The next two are the demands 1 and 3 of the pair and the bytes,
+// 3 wherever the holes lie (02, N4), then what 02, N2 adds of whole surfaces. The last goes beyond 01:
+// every real of a result is finite and at most 10^24 in size, as 02, N9 asks of results. The tables are
+// those of version 1: a strip of 1,024 corners and 512 points of holes, and 16 loops.
 pub fn close_face(record: &[u8], res: &mut [u8]) -> Result<usize, Refusal>
     ensures value { Tells result (judge (length res.old) «record».now) }
     ensures res_after { res.new ≡ lent_after (judge (length res.old) «record».now) res.old }
