@@ -10,6 +10,7 @@ ghost use Rattle.tables.specs.Rows.{rows};
 ghost use Rattle.compared.specs.Records.{counted};
 
 use records::limits::version1;
+use tables::corners::Corner;
 
 // How many values or bytes there are: `done` is 0 where something lent was too short, else 1.
 #[repr(C)]
@@ -69,7 +70,7 @@ pub extern "C" fn compared_read_head(face: &[u8], dst: &mut [f64]) -> Counted
 }
 
 #[unsafe(no_mangle)]
-pub extern "C" fn compared_read_corners(face: &[u8], t: &mut [f64]) -> Counted
+pub extern "C" fn compared_read_corners(face: &[u8], t: &mut [Corner]) -> Counted
     ensures value { result ≡ counted (then_some (points_fit face.now (length (rows t.old))) (length (corners_in face.now))) }
     ensures t_after { rows t.new ≡ filled_if (points_fit face.now (length (rows t.old))) (corners_in face.now) (rows t.old) }
 {

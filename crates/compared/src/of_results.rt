@@ -9,6 +9,7 @@ ghost use Rattle.compared.specs.Records.{counted, path_from, room_of};
 
 use super::of_records::Counted;
 use results::{Path, RecordSize};
+use tables::corners::Corner;
 
 // What a record takes: `holds` is 0 where a record cannot hold the counts, else 1.
 #[repr(C)]
@@ -58,7 +59,7 @@ pub extern "C" fn compared_write_result(
     path: u32,
     counts: &[usize],
     areas: &[f64],
-    t: &[f64],
+    t: &[Corner],
     out: &mut [u8],
 ) -> Counted
     ensures value { result ≡ counted (then_some (result_fits counts.now (length areas.now) (length (rows t.now)) (length out.old)) (length_of counts.now)) }
