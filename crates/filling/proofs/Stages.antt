@@ -12,7 +12,9 @@ use Rattle.lists.specs.Pieces.{pieces}
 use Rattle.lists.specs.Placed.{placed}
 use Rattle.numbers.specs.declared.math.Frame.{Frame}
 use Rattle.surfaces.specs.declared.options.Resolved.{Resolved}
+use Rattle.surfaces.specs.declared.patch.Patch.{Patch}
 use Rattle.surfaces.specs.declared.surface.Surface.{Surface}
+use Rattle.filling.specs.Band.{patch_in}
 use Rattle.surfaces.specs.Domains.{u_period}
 use Rattle.tables.specs.Rows.{rows}
 use Rattle.tables.specs.declared.corners.Corner.{Corner as Held}
@@ -123,11 +125,13 @@ module _ (s : List ℕ) (a : Accepted version1 s) (head : List Float) (counts : 
   unfolding verdict long_strip
   no_strip h = rw (ne_eqb (wrapping s) 2 h)
 
-  pub frame_in_lem : (f : Frame) → f ≡ frame_at head → f ≡ frame_in s
-  frame_in_lem f e = e ∙ ap frame_at read.head_is ∙ frame_read s
-
-  pub options_in_lem : (segments : ℕ) → segments ≡ Record.segments s → (o : Resolved) → o ≡ options_at head segments → o ≡ options_in s
-  options_in_lem segments segments_are o e = e ∙ (λ i. options_at (read.head_is i) (segments_are i)) ∙ options_read s
+  pub patch_in_lem : (surface : Surface) → surface ≡ surface_in s → (p : Patch) → p ≡ record { surface = surface; frame = frame_at head; options = options_at head (Record.segments s) }
+      → p ≡ patch_in s
+  patch_in_lem surface surface_is p e = e ∙ (λ i. record {
+    surface = surface_is i;
+    frame = (ap frame_at read.head_is ∙ frame_read s) i;
+    options = (ap (λ (h : List Float). options_at h (Record.segments s)) read.head_is ∙ options_read s) i;
+  })
 
   pub sense_in_lem : (sense : ℕ) → sense ≡ Record.sense s → (sense =? 1) ≡ sense_in s
   unfolding sense_in

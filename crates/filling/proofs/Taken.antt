@@ -22,7 +22,7 @@ use Rattle.tables.specs.declared.corners.Corner.{Corner as Held}
 use Rattle.tables.proofs.Rows.{length-rows, rows_take}
 use Rattle.loop_records.specs.declared.LoopRecord.{LoopRecord}
 use Rattle.loop_records.specs.Record.{no_loop}
-use Rattle.bands.specs.Columns.{setting_of}
+use Rattle.bands.specs.Columns.{setting_on}
 use Rattle.bands.specs.Given.{Measured, Given, Loop, falls}
 use Rattle.bands.specs.Strip.{Setting}
 use Rattle.std.specs.Prelude.{Result}
@@ -151,11 +151,11 @@ module _ (s : List ℕ) (corners : List Held) (given : List ℕ) (loops : List L
 
   -- ---- the band
 
-  setting_taken : (p : Option Float) (period : Float) → p ≡ u_period patch.surface → period ≡ period_length p → setting_of patch.frame patch.surface patch.options period sense ≡ setting_in s
+  setting_taken : (p : Option Float) (period : Float) → p ≡ u_period patch.surface → period ≡ period_length p → setting_on patch period sense ≡ setting_in s
   unfolding setting_in
   setting_taken p period p_is period_is =
       let e : period ≡ period_length (u_period (surface_in s)) = period_is ∙ ap period_length (p_is ∙ ap u_period (ap (λ (p : Patch). p.surface) f.patch_is)) in
-      λ i. setting_of (f.patch_is i).frame (f.patch_is i).surface (f.patch_is i).options (e i) (f.sense_is i)
+      λ i. setting_on (f.patch_is i) (e i) (f.sense_is i)
 
   module _ (first later holes : List Held) (counts : List ℕ) (ff lf : Bool)
       (first_is : rows first ≡ (loop_in s a).corners) (later_is : rows later ≡ (loop_in s b).corners) (ff_is : ff ≡ falls (loop_in s a).wrap) (lf_is : lf ≡ falls (loop_in s b).wrap)
@@ -185,7 +185,7 @@ module _ (s : List ℕ) (corners : List Held) (given : List ℕ) (loops : List L
 
     pub band-taken : (p : Option Float) (period : Float) (r : Result Closed TooMany) (t' holes' : List Held) → p ≡ u_period patch.surface → period ≡ period_length p
         → (length counts ≤ version1.loops → length (rows first) + length (rows later) ≤ version1.points
-        → BandIs (setting_of patch.frame patch.surface patch.options period sense) (held_in first later ff lf (pieces counts (rows holes))) r t' (pieces counts (rows holes')))
+        → BandIs (setting_on patch period sense) (held_in first later ff lf (pieces counts (rows holes))) r t' (pieces counts (rows holes')))
         → BandIs (setting_in s) (given_in s) r t' (pieces (others a b given) (rows holes'))
     band-taken p period r t' holes' p_is period_is is =
         subst (λ (ns : List ℕ). BandIs (setting_in s) (given_in s) r t' (pieces ns (rows holes'))) counts_are

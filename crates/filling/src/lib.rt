@@ -16,7 +16,7 @@ ghost use Rattle.loop_records.specs.Loops.{records_from};
 ghost use Rattle.filling.specs.Filled.{FillsTo};
 ghost use Rattle.call.specs.Later.{strip_conditions};
 ghost use Rattle.bands.specs.Given.{falls};
-ghost use Rattle.bands.specs.Columns.{setting_of};
+ghost use Rattle.bands.specs.Columns.{setting_on};
 ghost use Rattle.laying.specs.Held.{given_in as held_in};
 ghost use Rattle.holes.specs.Others.{others};
 ghost use Rattle.records.specs.Limits.{version1};
@@ -60,8 +60,8 @@ fn fill_whole(
     ensures { (s : List ℕ) → Accepted version1 s → loops_of s ≡ 0 → patch ≡ patch_in s
         → FillsTo passes s (Ok result) counts.new areas.new t.new }
 {
-    counts[0] = full_domain_count(patch);
-    areas[0] = full_domain_loop(patch, t);
+    counts[0] = full_domain_count(patch.surface, patch.options);
+    areas[0] = full_domain_loop(patch.surface, patch.frame, patch.options, t);
     FilledFace {
         path: Path::Whole,
         loops: 1,
@@ -123,7 +123,7 @@ fn band_between(
     t: &mut [Corner; 1536],
 ) -> Result<Closed, TooMany>
     ensures { length counts.now ≤ version1.loops → length (rows first.old) + length (rows later.old) ≤ version1.points
-        → BandIs (setting_of patch.frame patch.surface patch.options period sense) (held_in first.old later.old first_falls later_falls (pieces counts.now (rows holes.old)))
+        → BandIs (setting_on patch period sense) (held_in first.old later.old first_falls later_falls (pieces counts.now (rows holes.old)))
         result t.new (pieces counts.now (rows holes.new)) }
 {
     let mut spans = [Span {
