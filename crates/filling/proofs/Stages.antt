@@ -133,6 +133,12 @@ module _ (s : List ℕ) (a : Accepted version1 s) (head : List Float) (counts : 
     options = (ap (λ (h : List Float). options_at h (Record.segments s)) read.head_is ∙ options_read s) i;
   })
 
+  pub recorded_on : (surface : Surface) (frame : Frame) (options : Resolved) (p : Patch) → p ≡ record { surface = surface; frame = frame; options = options }
+      → (loops : List LoopRecord) → loops ≡ placed 0 (records_from (u_period surface) 0 (pieces counts (rows t))) (replicate 16 no_loop)
+      → loops ≡ placed 0 (records_from (u_period p.surface) 0 (pieces counts (rows t))) (replicate 16 no_loop)
+  recorded_on surface frame options p e loops recorded =
+      recorded ∙ ap (λ (q : Patch). placed 0 (records_from (u_period q.surface) 0 (pieces counts (rows t))) (replicate 16 no_loop)) (sym e)
+
   pub sense_in_lem : (sense : ℕ) → sense ≡ Record.sense s → (sense =? 1) ≡ sense_in s
   unfolding sense_in
   sense_in_lem sense sense_is = ap (λ (k : ℕ). k =? 1) sense_is

@@ -1,4 +1,4 @@
-use Rattle.filling.proofs.Stages.{no_loops, some_loops, patch_in_lem, sense_in_lem, whole_filled, none-wraps, closed_filled, band-wraps}
+use Rattle.filling.proofs.Stages.{no_loops, some_loops, patch_in_lem, recorded_on, sense_in_lem, whole_filled, none-wraps, closed_filled, band-wraps}
 use Rattle.filling.proofs.face.fill_path.Goals as goal
 
 pub returns-then-given-eq0 : goal.returns-then-given-eq0
@@ -20,5 +20,5 @@ returns c = λ a read recorded wraps_are areas_are surface_is pass.
     let patch = c.patch_of-2 in
     let patch_is = patch_in_lem _ a _ _ _ read _ surface_is _ patch.ensures in
     c.fill_band.ensures _ a (band-wraps _ a _ _ _ read _ wraps_are _ c.wrapping_count.ensures pass c.if-wrapping_count-eq0.false)
-    read.counts_are read.corners_are (recorded_of _ _ _ _ patch.ensures recorded) wraps_are areas_are patch_is
+    read.counts_are read.corners_are (recorded_on _ a _ _ _ read _ _ _ _ patch.ensures _ recorded) wraps_are areas_are patch_is
     (sense_in_lem _ a _ _ _ read _ c.sense.ensures)
