@@ -1,4 +1,4 @@
--- Filling lent slices from a record: loops over counts, over reals that stand a fixed step apart, and over corners.
+-- Filling lent slices from a record: loops over counts, over the reals before the points, and over corners.
 use mathlib.Core.Path.{◌≡◌, refl, sym, ap, ◌∙◌}
 use mathlib.Core.List.{List, map}
 use Prim.Native.Nat.{ℕ, ◌+◌, ◌*◌, ◌≤◌, ◌<◌}
@@ -7,7 +7,7 @@ use lib.ListN.{length, get_or, set, length-map, length-set, get_or-map}
 use lib.Seq.{take_all}
 use lib.Ieee.{Float, nan}
 use Rattle.lists.proofs.Filling as lists
-use Rattle.records.specs.Bytes.{u16_at, real_at, uv_at, xyz_at, row_at}
+use Rattle.records.specs.Bytes.{u16_at, real_at, uv_at, xyz_at}
 use Rattle.numbers.specs.declared.math.Vec2.{Vec2}
 use Rattle.tables.specs.Rows.{rows, corner_of, none}
 use Rattle.tables.specs.declared.corners.Corner.{Corner as Held}
@@ -54,46 +54,26 @@ module _ (s : List ℕ) where
       pub counts_end : l ≤ k → d ≡ front (counts s) d₀
       counts_end h = let z = length-counts in filling_end f (omega arith)
 
--- ---- reals that stand w bytes apart, each `off` bytes behind the begin of its w bytes
-
--- i reals are read, and the next one stands at p
-pub record Column (s : List ℕ) (base off w n : ℕ) (d₀ d : List Float) (p i : ℕ) : Type 0 where
-  pub next : p ≡ base + off + w * i
-  pub inside : off + 8 ≤ w
-  pub all : base + w * n ≤ length s
-  pub filling : Filling (row_at real_at w s (base + off) n) d₀ d i
-
-module _ {s : List ℕ} {base off w n : ℕ} {d₀ : List Float} where
-  pub column_start : off + 8 ≤ w → base + w * n ≤ length s → n ≤ length d₀ → Column s base off w n d₀ d₀ (base + off) 0
-  column_start h a r =
-      let l = length-row_at real_at w s (base + off) n in
-      record { next = omega arith; inside = h; all = a; filling = filling_start (omega arith) }
-
-  module _ {d : List Float} {p i : ℕ} (c : Column s base off w n d₀ d p i) where
-    pub column_turn : {x : Float} → i < n → x ≡ real_at s p → Column s base off w n d₀ (set d i x) (p + w) (i + 1)
-    column_turn h e =
-        let l = length-row_at real_at w s (base + off) n in
-        record {
-          next = let z = c.next in omega arith;
-          inside = c.inside;
-          all = c.all;
-          filling = filling_turn c.filling nan (omega arith)
-              (e ∙ ap (real_at s) c.next ∙ sym (get_or-row_at real_at w s (base + off) n i nan h));
-        }
-
-    pub column_end : n ≤ i → d ≡ front (row_at real_at w s (base + off) n) d₀
-    column_end h = let l = length-row_at real_at w s (base + off) n in filling_end c.filling (omega arith)
-
--- ---- which columns of the record these are
+-- ---- the reals before the points, from p on
 
 module _ (s : List ℕ) where
   pub length-head : length (head s) ≡ head_reals
   unfolding head
   length-head = length-row_at real_at 8 s (real_place s 0) head_reals
 
-  pub column_head : row_at real_at 8 s (real_place s 0 + 0) head_reals ≡ head s
-  unfolding head
-  column_head = let e : real_place s 0 + 0 ≡ real_place s 0 = omega arith in rw e
+  module _ {d₀ : List Float} where
+    pub head_start : head_reals ≤ length d₀ → Filling (head s) d₀ d₀ 0
+    head_start h = let l = length-head in filling_start (omega arith)
+
+    module _ {d : List Float} {i : ℕ} (f : Filling (head s) d₀ d i) where
+      pub head_turn : {p : ℕ} {x : Float} → p ≡ real_place s 0 → i < head_reals → x ≡ real_at s (p + 8 * i) → Filling (head s) d₀ (set d i x) (i + 1)
+      unfolding head
+      head_turn e h q =
+          let l = length-head in
+          filling_turn f nan (omega arith) (q ∙ rw e (sym (get_or-row_at real_at 8 s (real_place s 0) head_reals i nan h)))
+
+      pub head_end : head_reals ≤ i → d ≡ front (head s) d₀
+      head_end h = let l = length-head in filling_end f (omega arith)
 
 -- ---- the corners
 

@@ -1,12 +1,12 @@
 -- Which range a real of the file has, by where it stands; and that a range with finite bounds holds no NaN and no infinity.
-use mathlib.Core.Path.{◌≡◌, refl, sym, ap, ◌∙◌}
-use mathlib.Core.Bool.{Bool, true, false, ◌&&◌, true≢false}
+use mathlib.Core.Path.{◌≡◌, refl}
 use Prim.Native.Nat.{ℕ, ◌+◌, ◌-◌, ◌*◌, ◌%◌, ◌<◌}
 use native.Mathlib.Omega.{arith}
-use lib.Ieee.{Float, nan, inf, fin, le, lt, eq}
+use lib.Ieee.{Float, nan, inf, fin}
 use borrow.Author.Tests.{lt-ltb, le-ltb, eq-eqb, ne_eqb}
+use Rattle.std.specs.Float.{float_is_finite}
 use Rattle.records.specs.Face.{head_reals}
-use Rattle.records.specs.Limits.{Range, ◌to◌, finite, holds, head_range, u_range, v_range, uv_range, xyz_range, range}
+use Rattle.records.specs.Limits.{finite, head_range, u_range, v_range, uv_range, xyz_range, range}
 
 module _ (kind n : ℕ) where
   pub range-head : (i : ℕ) → i < head_reals → range kind n i ≡ head_range kind i
@@ -32,25 +32,9 @@ pub uv_odd : (kind j : ℕ) → (j % 2 ≡ 0 → ⊥) → uv_range kind j ≡ v_
 unfolding uv_range
 uv_odd kind j e = rw (ne_eqb (j % 2) 0 e)
 
-pub bounded : (a b x : Float) → finite a ≡ true → finite b ≡ true → (le a x && le x b) ≡ holds (a to b) x
-unfolding holds le lt eq
-bounded nan b x p q = absurd (true≢false (sym p))
-bounded (inf s) b x p q = absurd (true≢false (sym p))
-bounded (fin s m e) nan x p q = absurd (true≢false (sym q))
-bounded (fin s m e) (inf t) x p q = absurd (true≢false (sym q))
-bounded (fin s m e) (fin t n d) nan p q = refl
-bounded (fin s m e) (fin t n d) (inf false) p q = refl
-bounded (fin s m e) (fin t n d) (inf true) p q = refl
-bounded (fin s m e) (fin t n d) (fin r l c) p q = refl
-
-and_left : (a b : Bool) → (a && b) ≡ true → a ≡ true
-and_left true b e = refl
-and_left false b e = e
-
--- ---- what the code finds, where its two comparisons are known
-
-pub within : (R : Range) (a b x : Float) (r : Bool) → R ≡ (a to b) → finite a ≡ true → finite b ≡ true → r ≡ (le a x && le x b) → r ≡ holds R x
-within R a b x r e p q h = h ∙ bounded a b x p q ∙ ap (λ (z : Range). holds z x) (sym e)
-
-pub held : (R Q : Range) (x : Float) (r : Bool) → R ≡ Q → r ≡ holds Q x → r ≡ holds R x
-held R Q x r e h = h ∙ ap (λ (z : Range). holds z x) (sym e)
+-- what the code asks of a real besides
+pub is_finite : (x : Float) → float_is_finite x ≡ finite x
+unfolding float_is_finite
+is_finite nan = refl
+is_finite (inf s) = refl
+is_finite (fin s m e) = refl

@@ -1,5 +1,5 @@
 -- What the reading functions answer: where something is too short nothing is written, and else the slices are filled.
-use mathlib.Core.Path.{◌≡◌, refl, sym, ap, ◌∙◌}
+use mathlib.Core.Path.{◌≡◌, refl, sym, ◌∙◌}
 use mathlib.Core.Bool.{Bool, true, false, ◌&&◌}
 use mathlib.Core.List.{List}
 use Prim.Native.Nat.{ℕ, ◌+◌, ◌*◌, ◌≤◌, ◌<◌}
@@ -8,12 +8,12 @@ use lib.ListN.{length}
 use lib.Ieee.{Float}
 use borrow.Author.Tests.{le-leb, lt-leb, leb-true, leb-false}
 use Rattle.std.specs.Prelude.{Some, None}
-use Rattle.records.specs.Bytes.{◌≤?◌, real_at, row_at}
+use Rattle.records.specs.Bytes.{◌≤?◌}
 use Rattle.records.specs.Face.{header_size, head_reals, loops, counts, head, points, real_place, needed, corners_in}
 use Rattle.tables.specs.Rows.{rows}
 use Rattle.tables.specs.declared.corners.Corner.{Corner as Held}
 use Rattle.records.specs.Lent.{front, filled_if, counts_there, counts_fit, head_fits, points_fit, ReadInto, CornersRoom, CountsRead, HeadRead, CornersRead}
-use Rattle.records.proofs.Columns.{length-counts, length-head, column_head, length-corners}
+use Rattle.records.proofs.Columns.{length-counts, length-head, length-corners}
 
 -- ---- one slice
 
@@ -80,12 +80,6 @@ module _ (s : List ℕ) (d : List Float) where
   unfolding head_fits
   head_read e h r is =
       filled (rw (le-leb (real_place s head_reals) (length s) (omega arith), le-leb head_reals (length d) r)) (sym (length-head s)) is
-
--- the column that the code reads, with p its place
-pub head_filled : (s : List ℕ) {p : ℕ} → p ≡ real_place s 0 → (d : List Float) {d' : List Float} → d' ≡ front (row_at real_at 8 s (p + 0) head_reals) d → d' ≡ front (head s) d
-head_filled s {p} e d h =
-    let c : row_at real_at 8 s (p + 0) head_reals ≡ head s = rw e (column_head s) in
-    h ∙ ap (λ (l : List Float). front l d) c
 
 -- ---- corners
 

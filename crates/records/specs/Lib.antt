@@ -6,7 +6,7 @@ pub mod Accepted
 pub mod Result
 pub mod Encodable
 pub mod Call
-pub mod Parts
+pub mod Ranges
 pub mod Lent
 pub mod Answers
 pub mod Values

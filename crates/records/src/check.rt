@@ -1,14 +1,12 @@
 // The check of a face record: the refusals 2 to 7 of the table, in its order. It is lent no result
 // bytes and writes nothing.
-ghost use Rattle.std.specs.Prelude.{◌≡◌, ◌&&◌, ◌+◌, ◌*◌, ◌≤◌, length};
-ghost use Rattle.std.specs.Float.Ieee.{le};
-ghost use Rattle.records.specs.Face.{header_size, head_reals, loops, points, needed};
-ghost use Rattle.records.specs.Limits.{holds, radius, second, head_range, uv_range, xyz_range};
+ghost use Rattle.std.specs.Prelude.{◌≡◌, ◌+◌, ◌*◌, ◌≤◌, length};
+ghost use Rattle.records.specs.Face.{header_size, loops, needed};
 ghost use Rattle.records.specs.Refusals.{wrong_header, too_many_loops, ends_in_counts, too_few_points, too_many_points, wrong_length, first_bad_real, record_conditions, verdict};
-ghost use Rattle.records.specs.Parts.{bad_from};
 ghost use Rattle.records.specs.Answers.{place_of, verdict_of};
 
 use super::limits::Limits;
+use super::real_ranges::real_range;
 use super::refusal::Refusal;
 use super::{HEAD_REALS, HEADER_SIZE, MIN_POINTS, count_at, loops, points, real_at};
 
@@ -96,135 +94,18 @@ fn wrong_length(face: &[u8]) -> Option<usize>
     (face.len() != needed).then_some(needed)
 }
 
-// ---- the ranges of the reals
-
-fn between(low: f64, high: f64, x: f64) -> bool
-    ensures { result ≡ (le low x && le x high) }
-{
-    low <= x && x <= high
-}
-
-fn radius_holds(kind: u8, x: f64) -> bool
-    ensures { result ≡ holds (radius kind) x }
-{
-    if kind == 0 {
-        return between(0.0, 0.0, x);
-    }
-    if kind == 2 {
-        return between(0.0, 1000000.0, x);
-    }
-    between(0.000001, 1000000.0, x)
-}
-
-fn second_holds(kind: u8, x: f64) -> bool
-    ensures { result ≡ holds (second kind) x }
-{
-    if kind == 2 {
-        return between(-1.5, 1.5, x);
-    }
-    if kind == 4 {
-        return between(0.000001, 1000000.0, x);
-    }
-    between(0.0, 0.0, x)
-}
-
-fn head_holds(kind: u8, i: usize, x: f64) -> bool
-    ensures { result ≡ holds (head_range kind i) x }
-{
-    if i < 9 {
-        return between(-1000000000.0, 1000000000.0, x);
-    }
-    if i == 9 {
-        return radius_holds(kind, x);
-    }
-    if i == 10 {
-        return second_holds(kind, x);
-    }
-    if i == 11 {
-        return between(0.000001, 1000.0, x);
-    }
-    between(0.001, 1.5, x)
-}
-
-// Parameter real j, from 0: u and v in turn.
-fn uv_holds(kind: u8, j: usize, x: f64) -> bool
-    ensures { result ≡ holds (uv_range kind j) x }
-{
-    if j % 2 == 0 {
-        if kind == 0 {
-            return between(-1000000.0, 1000000.0, x);
-        }
-        return between(-64.0, 64.0, x);
-    }
-    if kind <= 2 {
-        return between(-1000000.0, 1000000.0, x);
-    }
-    between(-64.0, 64.0, x)
-}
-
-fn xyz_holds(x: f64) -> bool
-    ensures { result ≡ holds xyz_range x }
-{
-    between(-1000000000.0, 1000000000.0, x)
-}
-
-// ---- 7, in three parts: each finds its first bad real and counts from its own begin
-
-fn bad_head(face: &[u8]) -> Option<usize>
-    requires { length face.now ≡ needed face.now }
-    ensures { place_of result ≡ bad_from face.now 0 head_reals }
-{
-    let kind = face[1];
-    let at = HEADER_SIZE + 2 * loops(face);
-    for i in 0..HEAD_REALS {
-        if !head_holds(kind, i, real_at(face, at + 8 * i)) {
-            return Some(i);
-        }
-    }
-    None
-}
-
-fn bad_parameter(face: &[u8], n: usize) -> Option<usize>
-    requires { (length face.now ≡ needed face.now) × (n ≡ points face.now) }
-    ensures { place_of result ≡ bad_from face.now head_reals (2 * n) }
-{
-    let kind = face[1];
-    let at = HEADER_SIZE + 2 * loops(face) + 8 * HEAD_REALS;
-    for j in 0..2 * n {
-        if !uv_holds(kind, j, real_at(face, at + 8 * j)) {
-            return Some(j);
-        }
-    }
-    None
-}
-
-fn bad_position(face: &[u8], n: usize) -> Option<usize>
-    requires { (length face.now ≡ needed face.now) × (n ≡ points face.now) }
-    ensures { place_of result ≡ bad_from face.now (head_reals + 2 * n) (3 * n) }
-{
-    let at = HEADER_SIZE + 2 * loops(face) + 8 * (HEAD_REALS + 2 * n);
-    for j in 0..3 * n {
-        if !xyz_holds(real_at(face, at + 8 * j)) {
-            return Some(j);
-        }
-    }
-    None
-}
-
-#[tactic(auto, using(crate::proofs::Reals::of_parts))]
+// 7
 fn first_bad_real(face: &[u8]) -> Option<usize>
     requires { length face.now ≡ needed face.now }
     ensures { place_of result ≡ first_bad_real face.now }
 {
-    if let Some(i) = bad_head(face) {
-        return Some(i);
-    }
+    let kind = face[1];
     let n = points(face);
-    if let Some(j) = bad_parameter(face, n) {
-        return Some(HEAD_REALS + j);
-    }
-    if let Some(j) = bad_position(face, n) {
-        return Some(HEAD_REALS + 2 * n + j);
+    let at = HEADER_SIZE + 2 * loops(face);
+    for i in 0..HEAD_REALS + 5 * n {
+        if !real_range(kind, n, i).holds(real_at(face, at + 8 * i)) {
+            return Some(i);
+        }
     }
     None
 }

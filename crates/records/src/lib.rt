@@ -10,6 +10,7 @@ use numbers::bits;
 pub mod check;
 pub mod limits;
 pub mod read;
+mod real_ranges;
 pub mod refusal;
 
 // The sizes of a face record's parts, and how few points a loop may have.

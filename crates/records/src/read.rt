@@ -2,7 +2,7 @@
 // is checked here but that the record is long enough for what its counts say and that the slices have room: where not,
 // nothing is written, and there is no number.
 ghost use Rattle.std.specs.Prelude.{◌≡◌, ◌+◌, ◌*◌, ◌≤◌, length, get_or};
-ghost use Rattle.records.specs.Bytes.{real_at, row_at};
+ghost use Rattle.records.specs.Bytes.{real_at};
 ghost use Rattle.tables.specs.Rows.{rows, corner_of};
 ghost use Rattle.records.specs.Face.{kind, sense, segments, corners_in, corner_at};
 ghost use Rattle.records.specs.Lent.{front, counts_there, CountsRead, HeadRead, CornersRead, CornersRoom};
@@ -63,18 +63,6 @@ pub fn read_counts(face: &[u8], dst: &mut [usize]) -> Option<usize>
     Some(l)
 }
 
-// The n reals that stand w bytes apart, the first `off` bytes behind `base`.
-fn read_column(face: &[u8], base: usize, off: usize, w: usize, n: usize, dst: &mut [f64])
-    requires { (off + 8 ≤ w) × (w ≤ 24) × (base + w * n ≤ length face.now) × (n ≤ length dst.old) }
-    ensures { dst.new ≡ front (row_at real_at w face.now (base + off) n) dst.old }
-{
-    let mut p = base + off;
-    for i in 0..n {
-        dst[i] = real_at(face, p);
-        p += w;
-    }
-}
-
 // The 13 reals before the points.
 pub fn read_head(face: &[u8], dst: &mut [f64]) -> Option<usize>
     ensures { HeadRead face.now dst.old dst.new result }
@@ -89,7 +77,9 @@ pub fn read_head(face: &[u8], dst: &mut [f64]) -> Option<usize>
     if dst.len() < HEAD_REALS {
         return None;
     }
-    read_column(face, at, 0, 8, HEAD_REALS, dst);
+    for i in 0..HEAD_REALS {
+        dst[i] = real_at(face, at + 8 * i);
+    }
     Some(HEAD_REALS)
 }
 

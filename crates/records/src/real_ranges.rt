@@ -1,0 +1,133 @@
+// The ranges of a face record's reals: which real of the file has which.
+ghost use Rattle.std.specs.Prelude.{◌≡◌};
+ghost use Rattle.records.specs.Limits.{holds, up_to, radius, second, u_range, v_range, head_range, uv_range, xyz_range, range};
+ghost use Rattle.records.specs.Ranges.{range_of};
+
+use super::HEAD_REALS;
+
+// The kinds, as a record numbers them.
+const PLANE: u8 = 0;
+
+const CONE: u8 = 2;
+
+const TORUS: u8 = 4;
+
+// From one real to another, both included.
+#[derive(Clone, Copy)]
+pub struct Range {
+    low: f64,
+    high: f64,
+}
+
+impl Range {
+    // Whether x is finite and not outside, compared as numbers: -0 counts as 0.
+    #[tactic(auto, using(crate::proofs::Ranges::is_finite), unfolding(crate::specs::Limits::holds))]
+    pub fn holds(self, x: f64) -> bool
+        ensures { result ≡ holds (range_of self) x }
+    {
+        x.is_finite() && self.low <= x && x <= self.high
+    }
+}
+
+fn up_to(b: f64) -> Range
+    ensures { range_of result ≡ up_to b }
+{
+    Range { low: -b, high: b }
+}
+
+#[tactic(auto, unfolding(crate::specs::Limits::radius))]
+fn radius(kind: u8) -> Range
+    ensures { range_of result ≡ radius kind }
+{
+    match kind {
+        PLANE => Range {
+            low: 0.0,
+            high: 0.0,
+        },
+        CONE => Range {
+            low: 0.0,
+            high: 1000000.0,
+        },
+        _ => Range {
+            low: 0.000001,
+            high: 1000000.0,
+        },
+    }
+}
+
+#[tactic(auto, unfolding(crate::specs::Limits::second))]
+fn second(kind: u8) -> Range
+    ensures { range_of result ≡ second kind }
+{
+    match kind {
+        CONE => up_to(1.5),
+        TORUS => Range {
+            low: 0.000001,
+            high: 1000000.0,
+        },
+        _ => Range {
+            low: 0.0,
+            high: 0.0,
+        },
+    }
+}
+
+#[tactic(auto, unfolding(crate::specs::Limits::u_range))]
+fn u_range(kind: u8) -> Range
+    ensures { range_of result ≡ u_range kind }
+{
+    up_to(if kind == PLANE { 1000000.0 } else { 64.0 })
+}
+
+#[tactic(auto, unfolding(crate::specs::Limits::v_range))]
+fn v_range(kind: u8) -> Range
+    ensures { range_of result ≡ v_range kind }
+{
+    up_to(if kind <= CONE { 1000000.0 } else { 64.0 })
+}
+
+#[tactic(auto, unfolding(crate::specs::Limits::head_range))]
+fn head_range(kind: u8, i: usize) -> Range
+    ensures { range_of result ≡ head_range kind i }
+{
+    match i {
+        0..9 => up_to(1000000000.0),
+        9 => radius(kind),
+        10 => second(kind),
+        11 => Range {
+            low: 0.000001,
+            high: 1000.0,
+        },
+        _ => Range {
+            low: 0.001,
+            high: 1.5,
+        },
+    }
+}
+
+// Parameter real j, from 0: u and v in turn.
+#[tactic(auto, unfolding(crate::specs::Limits::uv_range))]
+fn uv_range(kind: u8, j: usize) -> Range
+    ensures { range_of result ≡ uv_range kind j }
+{
+    if j % 2 == 0 {
+        u_range(kind)
+    } else {
+        v_range(kind)
+    }
+}
+
+// Real i, in file order from 0, of a face with n points.
+#[tactic(auto, unfolding(crate::specs::Limits::range))]
+pub fn real_range(kind: u8, n: usize, i: usize) -> Range
+    ensures { range_of result ≡ range kind n i }
+{
+    if i < HEAD_REALS {
+        return head_range(kind, i);
+    }
+    let j = i - HEAD_REALS;
+    if j / 2 < n {
+        return uv_range(kind, j);
+    }
+    up_to(1000000000.0)
+}
