@@ -206,7 +206,7 @@ module _ (s : List ℕ) (corners : List Held) (given : List ℕ) (loops : List L
     band-few = let h = fits in let k = repeats_fewer (λ (c d : Corner Vec3). S.same c.at d.at) (strip_of S g) in let x = h.0 in let y = h.1.0 in omega arith
 
     picked : others a b given ≡ map length g.holes
-    picked = hole-counts s corners given loops frame surface options sense a b f
+    picked = hole-counts s corners given loops patch sense a b f
 
     rows_are : (t' : List Held) → rows t' ≡ placed n (rows held) (rows t) → take (n + sum (others a b given)) (rows t') ≡ corners_of (wrapped_loops s)
     unfolding strip_points
@@ -214,7 +214,7 @@ module _ (s : List ℕ) (corners : List Held) (given : List ℕ) (loops : List L
         let l = length-rows t in
         let k = length-rows held in
         let m = band-few in
-        let p = points-few s corners given loops frame surface options sense a b f in
+        let p = points-few s corners given loops patch sense a b f in
         let q = ap sum picked ∙ total-length g.holes in
         let band : take n (rows t) ≡ outer S g = ap (λ (j : ℕ). take j (rows t)) fits.1.0 ∙ is.band fits.0 in
         let behind : take (sum (others a b given)) (rows held) ≡ flatten hs = sym (flat_pieces (others a b given) (rows held)) ∙ ap flatten is.holes_are in
@@ -225,13 +225,13 @@ module _ (s : List ℕ) (corners : List Held) (given : List ℕ) (loops : List L
         → areas' ≡ placed 1 (others a b (map signed_area (pieces given (rows corners)))) (set areas 0 area) → m ≡ length given - 1
         → FillsTo (verdict (strip_conditions version1) s) s (Ok (record { path = Wrapped; loops = m })) counts' areas' t'
     filled_short t' counts counts' areas areas' m in_counts in-areas put-rows put-counts put-areas m_is =
-        let two-less = holes-two_less s corners given loops frame surface options sense a b f in
+        let two-less = holes-two_less s corners given loops patch sense a b f in
         let lengths = ap length picked ∙ length-map g.holes length in
         let counts-kept = length-set counts 0 n in
         let areas-kept = length-set areas 0 area in
-        let limit = few s corners given loops frame surface options sense a b f in
+        let limit = few s corners given loops patch sense a b f in
         let many = result_many in
-        let picked-areas : others a b (map signed_area (pieces given (rows corners))) ≡ areas₀ = map-others a b signed_area 0 (pieces given (rows corners)) ∙ ap (map signed_area) (hole_lists s corners given loops frame surface options sense a b f) in
+        let picked-areas : others a b (map signed_area (pieces given (rows corners))) ≡ areas₀ = map-others a b signed_area 0 (pieces given (rows corners)) ∙ ap (map signed_area) (hole_lists s corners given loops patch sense a b f) in
         let areas_long = ap length picked-areas ∙ length-map g.holes signed_area in
         let as_many : length (wrapped_loops s) ≡ suc (length (others a b given)) = omega arith in
         let area-many : length (wrapped_loops s) ≡ suc (length (others a b (map signed_area (pieces given (rows corners))))) = omega arith in

@@ -61,18 +61,16 @@ module _ (S : Setting Vec3) (counts : List ℕ) (first₀ later₀ holes₀ firs
   unfolding holes joined started trial
   holes_are = ap (λ (f : Face Vec3). f.holes) seamed_is
 
-  -- wall and t are the tables of close_ordered
-  pub between : (with₁ with₂ : Bool) (heights : List Float) (wall t t' : List Held) (r : Result Closed TooMany) → with₁ ≡ goes_with S given.first → with₂ ≡ goes_with S given.later
-      → length heights ≡ 512 → length wall ≡ 512 → length t ≡ 1536
-      → r ≡ closing_of S (lower_of S with₁ with₂ (rings_of first₃ later₃)) (upper_of S with₁ with₂ (rings_of first₃ later₃)) (room_for heights wall t)
-      → rows t' ≡ closed_into S (lower_of S with₁ with₂ (rings_of first₃ later₃)) (upper_of S with₁ with₂ (rings_of first₃ later₃)) (room_for heights wall t) (rows t)
+  -- close_ordered has room for a strip of k corners, and t is its table
+  pub between : (with₁ with₂ : Bool) (k : ℕ) (t t' : List Held) (r : Result Closed TooMany) → with₁ ≡ goes_with S given.first → with₂ ≡ goes_with S given.later
+      → r ≡ closing_of S (lower_of S with₁ with₂ (rings_of first₃ later₃)) (upper_of S with₁ with₂ (rings_of first₃ later₃)) k
+      → rows t' ≡ closed_into S (lower_of S with₁ with₂ (rings_of first₃ later₃)) (upper_of S with₁ with₂ (rings_of first₃ later₃)) k (rows t)
+      → k ≡ version1.strip → length t ≡ 1536
       → BandIs S given r t' (pieces counts (rows holes₂))
   unfolding band_closing
-  between with₁ with₂ heights wall t t' r e₁ e₂ heights-long wall-long t_long answer out =
+  between with₁ with₂ k t t' r e₁ e₂ answer out room_is t_long =
       let face : Face Vec3 = rings_of first₃ later₃ in
-      let k = length-rows wall in
       let l = length-rows t in
-      let room_is : room_for heights wall t ≡ version1.strip = omega arith in
       let within : version1.strip ≤ length (rows t) = omega arith in
       record {
         answer = answer ∙ (λ i. closing_of S (lower_of S (e₁ i) (e₂ i) face) (upper_of S (e₁ i) (e₂ i) face) (room_is i)) ∙ closing_is S given face first_is later_is version1.strip;

@@ -20,8 +20,6 @@ use Rattle.tables.specs.Rows.{rows}
 use Rattle.tables.specs.declared.corners.Corner.{Corner as Held}
 use Rattle.closed_region.specs.declared.boxes.Bounds.{Bounds}
 use Rattle.tables.proofs.Rows.{length-rows}
-use Rattle.closed_region.specs.Loops.{boxes_in}
-use Rattle.closed_region.proofs.BoxTable.{length-boxes}
 use Rattle.records.specs.Accepted.{Accepted}
 use Rattle.lists.specs.Elements.{sum}
 use Rattle.records.specs.Face.{loops}

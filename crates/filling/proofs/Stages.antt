@@ -180,7 +180,7 @@ module _ (s : List ℕ) (a : Accepted version1 s) (head : List Float) (counts : 
       pub wraps_in_lem : (w : List ℤ) → w ≡ map (λ (one : LoopRecord). one.wrap) records → take l w ≡ wraps_in s
       wraps_in_lem w e =
           ap (λ (k : ℕ). take k w) l_is ∙ read_out (λ (one : LoopRecord). one.wrap) p counts (rows t) records w few-counts recorded e
-          ∙ ap (λ (q : Period). map (λ (one : LoopRecord). one.wrap) (records_from q 0 (pieces counts (rows t)))) (p_is ∙ ap u_period surface_is)
+          ∙ ap (λ (q : Option Float). map (λ (one : LoopRecord). one.wrap) (records_from q 0 (pieces counts (rows t)))) (p_is ∙ ap u_period surface_is)
           ∙ wraps_shown s (pieces counts (rows t)) held
 
       pub areas_in : (m : List Float) → m ≡ map (λ (one : LoopRecord). one.area) records → take l m ≡ map signed_area (pieces counts (rows t))

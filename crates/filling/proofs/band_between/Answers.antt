@@ -10,5 +10,5 @@ returns c =
     c.lay_rings.ensures.first_after c.lay_rings.ensures.later_after c.reseam.ensures c.take_start.ensures.first_after
     c.take_start.ensures.later_after (omega arith)
     (still_short c.args.first.now _ c.args.later.now _ _ _ _ c.first-1.given c.first-2-1.given c.later-1.given c.later-2-1.given
-    (omega arith)) _ _ _ _ _ _ _ c.goes_with-with1.ensures c.goes_with-with2.ensures (omega arith) (omega arith) (omega arith)
-    (c.close_ordered.ensures.value c.args.sense) (c.close_ordered.ensures.out_after c.args.sense)
+    (omega arith)) _ _ _ _ _ _ c.goes_with-with1.ensures c.goes_with-with2.ensures
+    (c.close_ordered.ensures.value c.args.sense) (c.close_ordered.ensures.out_after c.args.sense) (omega arith) (omega arith)

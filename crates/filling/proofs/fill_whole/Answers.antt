@@ -1,5 +1,4 @@
-use Rattle.std.proofs.Common.{refl, ap}
-use Rattle.surfaces.specs.declared.patch.Patch.{Patch}
+use Rattle.std.proofs.Common.{refl, rules}
 use Rattle.filling.proofs.Whole.{whole_filled}
 use Rattle.filling.proofs.fill_whole.Goals as goal
 
