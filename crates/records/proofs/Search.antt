@@ -1,4 +1,4 @@
--- The search of the conditions: what `first_where` finds, in plain facts; a search that a loop has brought to k.
+-- The search of the conditions: what `first_where` finds, in plain facts; a search in two parts; a search that a loop has brought to k.
 use mathlib.Core.Path.{◌≡◌, refl, sym, ap, ◌∙◌, subst}
 use mathlib.Core.Logic.{◌↔◌, ◌⊎◌, inl, inr}
 use mathlib.Core.Bool.{Bool, true, false, cond, true≢false}
@@ -8,7 +8,7 @@ use native.Mathlib.Numerals.{add-one}
 use native.Mathlib.Omega.{arith}
 use Rattle.std.specs.Bool.{then_some}
 use Rattle.records.specs.Answers.{place_of}
-use Rattle.records.specs.Refusals.{nowhere, at, when, first_from, first_where}
+use Rattle.records.specs.Refusals.{Place, nowhere, at, when, first_from, first_where}
 
 pub nowhere≢at : {p : ℕ} → nowhere ≡ at p → ⊥
 nowhere≢at {p} e = let z : ◌≡◌ {A = ℕ} 0 1 = cc in omega arith
@@ -114,6 +114,24 @@ module _ (test : ℕ → Bool) where
 
   pub first_fails : (n : ℕ) → first_where n test ≡ nowhere ↔ ((j : ℕ) → j < n → test j ≡ false)
   first_fails n = ((λ e j h. none→ 0 n e j (omega arith) (omega arith)), (λ h. none← 0 n (λ j a b. h j (omega arith))))
+
+-- ---- a search in two parts
+
+abbrev pub or_else : Place → Place → Place
+or_else nowhere q = q
+or_else (at p) q = at p
+
+or_else_cond : (b : Bool) (k : ℕ) (p q : Place) → cond b (at k) (or_else p q) ≡ or_else (cond b (at k) p) q
+or_else_cond true k p q = refl
+or_else_cond false k p q = refl
+
+pub split : (test : ℕ → Bool) (k m n : ℕ) → first_from test k (m + n) ≡ or_else (first_from test k m) (first_from test (k + m) n)
+unfolding first_from
+split test k zero n = let e : 0 + n ≡ n = omega arith in let f : k + 0 ≡ k = omega arith in rw (e, f)
+split test k (suc m) n =
+    let e : suc m + n ≡ suc (m + n) = omega arith in
+    let f : k + suc m ≡ suc k + m = omega arith in
+    rw (e, f) (ap (cond (test k) (at k)) (split test (suc k) m n) ∙ or_else_cond (test k) k (first_from test (suc k) m) (first_from test (suc k + m) n))
 
 -- ---- a loop that has come to k: the test was true nowhere before
 

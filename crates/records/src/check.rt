@@ -1,12 +1,14 @@
 // The check of a face record: the refusals 2 to 7 of the table, in its order. It is lent no result
 // bytes and writes nothing.
-ghost use Rattle.std.specs.Prelude.{◌≡◌, ◌+◌, ◌*◌, ◌≤◌, length};
-ghost use Rattle.records.specs.Face.{header_size, loops, needed};
-ghost use Rattle.records.specs.Refusals.{wrong_header, too_many_loops, ends_in_counts, too_few_points, too_many_points, wrong_length, first_bad_real, record_conditions, verdict};
+ghost use Rattle.std.specs.Prelude.{◌≡◌, ℕ, ◌+◌, ◌*◌, ◌≤◌, ◌<◌, length};
+ghost use Rattle.records.specs.Face.{header_size, kind, loops, points, reals, needed};
+ghost use Rattle.records.specs.Limits.{range};
+ghost use Rattle.records.specs.Ranges.{range_of};
+ghost use Rattle.records.specs.Refusals.{wrong_header, too_many_loops, ends_in_counts, too_few_points, too_many_points, wrong_length, bad_real, first_bad_real, first_from, record_conditions, verdict};
 ghost use Rattle.records.specs.Answers.{place_of, verdict_of};
 
 use super::limits::Limits;
-use super::real_ranges::real_range;
+use super::real_ranges::{Range, head_range, uv_range, xyz_range};
 use super::refusal::Refusal;
 use super::{HEAD_REALS, HEADER_SIZE, MIN_POINTS, count_at, loops, points, real_at};
 
@@ -94,20 +96,43 @@ fn wrong_length(face: &[u8]) -> Option<usize>
     (face.len() != needed).then_some(needed)
 }
 
-// 7
+// Of `count` reals from real `first` on, the first that is not in its range.
+fn first_outside<F: Fn(usize) -> Range>(
+    face: &[u8],
+    first: usize,
+    count: usize,
+    range_of_real: F,
+) -> Option<usize>
+    requires whole { length face.now ≡ needed face.now }
+    requires inside { first + count ≤ reals face.now }
+    requires callable { F.IsAlwaysCallable range_of_real }
+    requires ranged { (j : ℕ) (r : _) → j < count → F.post range_of_real j r → range_of r ≡ range (kind face.now) (points face.now) (first + j) }
+    ensures { place_of result ≡ first_from (bad_real face.now) first count }
+{
+    let at = HEADER_SIZE + 2 * loops(face) + 8 * first;
+    for j in 0..count {
+        if !range_of_real(j).contains(real_at(face, at + 8 * j)) {
+            return Some(first + j);
+        }
+    }
+    None
+}
+
+// 7, in three parts, since one loop over all reals that looks up each range takes twice the time
+#[tactic(auto, using(crate::proofs::Reals::of_parts))]
 fn first_bad_real(face: &[u8]) -> Option<usize>
     requires { length face.now ≡ needed face.now }
     ensures { place_of result ≡ first_bad_real face.now }
 {
     let kind = face[1];
-    let n = points(face);
-    let at = HEADER_SIZE + 2 * loops(face);
-    for i in 0..HEAD_REALS + 5 * n {
-        if !real_range(kind, n, i).holds(real_at(face, at + 8 * i)) {
-            return Some(i);
-        }
+    if let Some(i) = first_outside(face, 0, HEAD_REALS, |i| head_range(kind, i)) {
+        return Some(i);
     }
-    None
+    let n = points(face);
+    if let Some(i) = first_outside(face, HEAD_REALS, 2 * n, |j| uv_range(kind, j)) {
+        return Some(i);
+    }
+    first_outside(face, HEAD_REALS + 2 * n, 3 * n, |_| xyz_range())
 }
 
 // ---- the check

@@ -1,9 +1,8 @@
-// The ranges of a face record's reals: which real of the file has which.
-ghost use Rattle.std.specs.Prelude.{◌≡◌};
-ghost use Rattle.records.specs.Limits.{holds, up_to, radius, second, u_range, v_range, head_range, uv_range, xyz_range, range};
+// The ranges of a face record's reals.
+ghost use Rattle.std.specs.Prelude.{◌≡◌, ◌&&◌};
+ghost use Rattle.std.specs.Float.Ieee.{le};
+ghost use Rattle.records.specs.Limits.{up_to, radius, second, u_range, v_range, head_range, uv_range, xyz_range};
 ghost use Rattle.records.specs.Ranges.{range_of};
-
-use super::HEAD_REALS;
 
 // The kinds, as a record numbers them.
 const PLANE: u8 = 0;
@@ -20,12 +19,11 @@ pub struct Range {
 }
 
 impl Range {
-    // Whether x is finite and not outside, compared as numbers: -0 counts as 0.
-    #[tactic(auto, using(crate::proofs::Ranges::is_finite), unfolding(crate::specs::Limits::holds))]
-    pub fn holds(self, x: f64) -> bool
-        ensures { result ≡ holds (range_of self) x }
+    // Compared as numbers: -0 counts as 0.
+    pub fn contains(self, x: f64) -> bool
+        ensures { result ≡ (le self.low x && le x self.high) }
     {
-        x.is_finite() && self.low <= x && x <= self.high
+        self.low <= x && x <= self.high
     }
 }
 
@@ -87,7 +85,7 @@ fn v_range(kind: u8) -> Range
 }
 
 #[tactic(auto, unfolding(crate::specs::Limits::head_range))]
-fn head_range(kind: u8, i: usize) -> Range
+pub fn head_range(kind: u8, i: usize) -> Range
     ensures { range_of result ≡ head_range kind i }
 {
     match i {
@@ -107,7 +105,7 @@ fn head_range(kind: u8, i: usize) -> Range
 
 // Parameter real j, from 0: u and v in turn.
 #[tactic(auto, unfolding(crate::specs::Limits::uv_range))]
-fn uv_range(kind: u8, j: usize) -> Range
+pub fn uv_range(kind: u8, j: usize) -> Range
     ensures { range_of result ≡ uv_range kind j }
 {
     if j % 2 == 0 {
@@ -117,17 +115,8 @@ fn uv_range(kind: u8, j: usize) -> Range
     }
 }
 
-// Real i, in file order from 0, of a face with n points.
-#[tactic(auto, unfolding(crate::specs::Limits::range))]
-pub fn real_range(kind: u8, n: usize, i: usize) -> Range
-    ensures { range_of result ≡ range kind n i }
+pub fn xyz_range() -> Range
+    ensures { range_of result ≡ xyz_range }
 {
-    if i < HEAD_REALS {
-        return head_range(kind, i);
-    }
-    let j = i - HEAD_REALS;
-    if j / 2 < n {
-        return uv_range(kind, j);
-    }
     up_to(1000000000.0)
 }
