@@ -46,7 +46,7 @@ module _ (s : List ℕ) (bare : loops s ≡ 0) (patch : Patch) (patch_is : patch
   unfolding whole_loop whole_rows
   boundary_is =
       λ i. let p = patch_is i in
-          loop_of (whole_area p.surface p.options) (map (placed_corner p.surface p.frame) (whole_corners p.surface p.options)) ∷ []
+      loop_of (whole_area p.surface p.options) (map (placed_corner p.surface p.frame) (whole_corners p.surface p.options)) ∷ []
 
   rows_many : length (whole_rows surface frame options) ≡ length (whole_corners surface options)
   unfolding whole_rows

@@ -60,8 +60,8 @@ fn fill_whole(
     ensures { (s : List ℕ) → Accepted version1 s → loops_of s ≡ 0 → patch ≡ patch_in s
         → FillsTo passes s (Ok result) counts.new areas.new t.new }
 {
-    counts[0] = full_domain_count(patch.surface, patch.options);
-    areas[0] = full_domain_loop(patch.surface, patch.frame, patch.options, t);
+    counts[0] = full_domain_count(patch);
+    areas[0] = full_domain_loop(patch, t);
     FilledFace {
         path: Path::Whole,
         loops: 1,
@@ -139,7 +139,15 @@ fn band_between(
     let with1 = goes_with(sense, first_falls);
     let with2 = goes_with(sense, later_falls);
     close_ordered(
-        first, later, with1, with2, patch, period, &mut heights, &mut wall, t,
+        first,
+        later,
+        with1,
+        with2,
+        patch,
+        period,
+        &mut heights,
+        &mut wall,
+        t,
     )
 }
 
@@ -206,9 +214,7 @@ fn fill_band(
     let mut holes = [ORIGIN; 512];
     let a = last_wrapping(wraps).unwrap_or(0);
     let b = first_wrapping(wraps).unwrap_or(0);
-    let closing = band_of(
-        corners, given, loops, a, b, patch, sense, &mut holes, t,
-    );
+    let closing = band_of(corners, given, loops, a, b, patch, sense, &mut holes, t);
     match closing {
         Ok(closed) => {
             copy_rows(t, closed.count, &holes);
