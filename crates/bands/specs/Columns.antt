@@ -4,6 +4,7 @@ use Rattle.numbers.specs.Position.{same}
 use Rattle.numbers.specs.declared.math.Vec3.{Vec3}
 use Rattle.numbers.specs.declared.math.Frame.{Frame}
 use Rattle.surfaces.specs.declared.options.Resolved.{Resolved}
+use Rattle.surfaces.specs.declared.patch.Patch.{Patch}
 use Rattle.surfaces.specs.declared.surface.Surface.{Surface}
 use Rattle.surfaces.specs.Domains.{v_period}
 use Rattle.surfaces.specs.Points.{point_of}
@@ -50,3 +51,7 @@ setting_with rungs_between frame surface options period sense = record {
 -- with the rungs of `merge_even`
 abbrev pub setting_of : Frame → Surface → Resolved → Float → Bool → Setting Vec3
 setting_of = setting_with rungs
+
+-- the same, of a patch
+abbrev pub setting_on : Patch → Float → Bool → Setting Vec3
+setting_on patch period sense = setting_of patch.frame patch.surface patch.options period sense

@@ -10,6 +10,7 @@ use borrow.Author.Tests.{lt-ltb, le-ltb}
 use lib.ListN.{length, get_or, take, length-map}
 use Rattle.std.specs.Prelude.{Option, Result, Ok, Err}
 use Rattle.std.specs.Option.{unwrap_or}
+use Rattle.tables.specs.declared.corners.Corner.{Corner as Held}
 use Rattle.records.specs.declared.refusal.Refusal.{Refusal}
 use Rattle.records.specs.declared.refusal.Refusal.TheVariants.{TooFewLent, WrongHeader}
 use Rattle.records.specs.declared.limits.Limits.{Limits}
@@ -94,7 +95,7 @@ module _ (old s : List ℕ) where
     unfolding verdict
     header_refused p is = refused_by _ (WrongHeader p) (judge_is (refuses 2 p) (rw (sym is))) old
 
-    module _ (counts : List ℕ) (areas t : List Float) where
+    module _ (counts : List ℕ) (areas : List Float) (t : List Held) where
       pub face_refused : (r : Refusal) → FillsTo (verdict behind_lent s) s (Err r) counts areas t → AnswersTo (judge (length old) s) (Err r) old old
       face_refused r f = refused_by _ r (judge_is (refuses (refusal_number r) (refusal_place r)) (sym f.answer)) old
 
@@ -127,7 +128,7 @@ module _ (old s : List ℕ) where
             filled.path (ap (λ (k : FilledFace). path_of k.path) f.face ∙ path-taken s) (take filled.loops counts) areas t held old enough new w.written k to w.bytes)
 
 -- the bytes of a result with l of its counts
-pub bytes_told : (path : Path) (loops : ℕ) (counts : List ℕ) (areas t : List Float) (old new : List ℕ) (r l : ℕ) → l ≡ min loops (length counts)
+pub bytes_told : (path : Path) (loops : ℕ) (counts : List ℕ) (areas : List Float) (t : List Held) (old new : List ℕ) (r l : ℕ) → l ≡ min loops (length counts)
     → (w : Option ℕ) → WrittenTo path (take l counts) areas t old new w → r ≡ unwrap_or w 0 → WrittenBytes path loops counts areas t old new r
 bytes_told path loops counts areas t old new r l l_is w to bytes =
     record { written = w; written_to = subst (λ (m : ℕ). WrittenTo path (take m counts) areas t old new w) l_is to; bytes = bytes }

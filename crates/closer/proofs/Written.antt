@@ -10,6 +10,7 @@ use lib.ListN.{length, take, length-map}
 use Rattle.numbers.specs.declared.math.Vec3.{Vec3}
 use Rattle.tables.specs.Corners.{Corner, uv_of}
 use Rattle.tables.specs.Rows.{rows}
+use Rattle.tables.specs.declared.corners.Corner.{Corner as Held}
 use Rattle.records.specs.Bytes.{◌=?◌}
 use Rattle.lists.specs.Elements.{sum, All, none, and}
 use Rattle.records.specs.Call.{Outcome, refused, closed, lent_after}
@@ -83,7 +84,7 @@ front_full (suc n) (a ∷ l) e = let h = front_full n l (omega arith) in omega a
 
 module _ (L : Limits) (encodable : Encodable L) (s : List ℕ) (few_loops : loops s ≤ L.loops) (few_points : points s ≤ L.points)
     (short_strip : (wrapping s ≡ 0 → ⊥) → strip_points s ≤ L.strip)
-    (path : Path) (path_is : path_of path ≡ path_in s) (counts : List ℕ) (areas t : List Float) (h : HoldsResult (result_loops s) counts areas t)
+    (path : Path) (path_is : path_of path ≡ path_in s) (counts : List ℕ) (areas : List Float) (t : List Held) (h : HoldsResult (result_loops s) counts areas t)
     (out : List ℕ) (lent : L.result ≤ length out) where
   writable : Writable (result_in s)
   writable = result_writable L encodable s few_loops few_points short_strip

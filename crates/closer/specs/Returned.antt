@@ -1,6 +1,7 @@
 -- What the call answers, and an answer as the pair of numbers that 01 names.
 use Rattle.std.specs.Prelude.{ℕ, min, ◌≡◌, List, Float, length, take, Option, Result, Ok, Err}
 use Rattle.std.specs.Option.{unwrap_or}
+use Rattle.tables.specs.declared.corners.Corner.{Corner as Held}
 use Rattle.records.specs.declared.refusal.Refusal.{Refusal}
 use Rattle.records.specs.Answers.{refusal_number, refusal_place}
 use Rattle.records.specs.Call.{Outcome, refused, closed}
@@ -24,7 +25,7 @@ value_of (Ok n) = n
 value_of (Err r) = refusal_place r
 
 -- r bytes are written of a result with so many of the counts, none where something was too short
-pub record WrittenBytes (path : Path) (loops : ℕ) (counts : List ℕ) (areas t : List Float) (old new : List ℕ) (r : ℕ) : Type 0 where
+pub record WrittenBytes (path : Path) (loops : ℕ) (counts : List ℕ) (areas : List Float) (t : List Held) (old new : List ℕ) (r : ℕ) : Type 0 where
   pub written : Option ℕ
   pub written_to : WrittenTo path (take (min loops (length counts)) counts) areas t old new written
   pub bytes : r ≡ unwrap_or written 0

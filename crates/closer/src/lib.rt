@@ -13,6 +13,7 @@ use records::check::wrong_header;
 use records::limits::version1;
 use records::refusal::Refusal;
 use results::write_result;
+use tables::corners::{Corner, ORIGIN};
 use tables::slices::shorter;
 
 pub mod entry;
@@ -23,7 +24,7 @@ fn write_loops(
     face: FilledFace,
     counts: &[usize],
     areas: &[f64],
-    t: &[f64],
+    t: &[Corner],
     res: &mut [u8],
 ) -> usize
     ensures { WrittenBytes face.path face.loops counts.now areas.now t.now res.old res.new result }
@@ -37,7 +38,7 @@ fn write_filled(
     face: FilledFace,
     counts: &[usize; 16],
     areas: &[f64; 16],
-    t: &[f64; 7680],
+    t: &[Corner; 1536],
     res: &mut [u8],
 ) -> usize
     ensures { WrittenBytes face.path face.loops counts.now areas.now t.now res.old res.new result }
@@ -45,13 +46,13 @@ fn write_filled(
     write_loops(face, counts, areas, t, res)
 }
 
-// The face record is closed into the front of the lent bytes, and the length of the result record
-// answered, or it is refused; refused, the lent bytes keep their values. The first two clauses say what is returned and what the lent bytes are then, by
-// the definition of the whole call: demand 2, where that definition is what the Rust computes. The next
-// two are the demands 1 and 3 of the pair and the bytes, 3 wherever the holes lie (02, N4), then what
-// 02, N2 adds of whole surfaces. The last goes beyond 01: every real of a result is finite and at most
-// 10^24 in size, as 02, N9 asks of results. The tables are those of version 1: a strip of 1,024 corners
-// and 512 points of holes, and 16 loops.
+// The face record is closed into the front of the lent bytes, and the length of the result record is
+// answered; or it is refused, and the lent bytes keep their values. The first two clauses say what is
+// returned and what the lent bytes are then, by the definition of the whole call: demand 2, where that
+// definition is what the Rust computes. The next two are the demands 1 and 3 of the pair and the bytes,
+// 3 wherever the holes lie (02, N4), then what 02, N2 adds of whole surfaces. The last goes beyond 01:
+// every real of a result is finite and at most 10^24 in size, as 02, N9 asks of results. The tables are
+// those of version 1: a strip of 1,024 corners and 512 points of holes, and 16 loops.
 pub fn close_face(record: &[u8], res: &mut [u8]) -> Result<usize, Refusal>
     ensures value { Tells result (judge (length res.old) «record».now) }
     ensures res_after { res.new ≡ lent_after (judge (length res.old) «record».now) res.old }
@@ -67,7 +68,7 @@ pub fn close_face(record: &[u8], res: &mut [u8]) -> Result<usize, Refusal>
     if let Some(place) = wrong_header(record) {
         return Err(Refusal::WrongHeader(place));
     }
-    let mut t = [0.0; 7680];
+    let mut t = [ORIGIN; 1536];
     let mut counts = [0; 16];
     let mut areas = [0.0; 16];
     let filled = fill_face(record, &mut t, &mut counts, &mut areas)?;

@@ -9,7 +9,9 @@ ghost use Rattle.compared.specs.Surfaces.{surface_of, resolved_of};
 
 use super::of_numbers::{Placement, frame_of};
 use super::of_surfaces::surface_of;
+use numbers::math::{Frame, Vec3};
 use surfaces::options::Resolved;
+use surfaces::patch::Patch;
 use tables::corners::Corner;
 
 #[unsafe(no_mangle)]
@@ -24,12 +26,26 @@ pub extern "C" fn compared_full_domain_count(
     ensures value { result ≡ length (whole_corners (surface_of kind a b) (resolved_of sag angle segments)) }
     ensures count_ends { CountEnds (surface_of kind a b) (resolved_of sag angle segments) result }
 {
-    let options = Resolved {
-        sag,
-        angle,
-        min_edge_segments: segments,
+    // The count is the same wherever the surface stands.
+    let here = Vec3 {
+        x: 0.0,
+        y: 0.0,
+        z: 0.0,
     };
-    full_domain::boundary::full_domain_count(surface_of(kind, a, b), options)
+    let patch = Patch {
+        surface: surface_of(kind, a, b),
+        frame: Frame {
+            origin: here,
+            axis: here,
+            reference: here,
+        },
+        options: Resolved {
+            sag,
+            angle,
+            min_edge_segments: segments,
+        },
+    };
+    full_domain::boundary::full_domain_count(patch)
 }
 
 #[unsafe(no_mangle)]
@@ -47,11 +63,14 @@ pub extern "C" fn compared_full_domain_loop(
     ensures t_after { rows t.new ≡ placed 0 (whole_rows (surface_of kind a b) (frame_of frame) (resolved_of sag angle segments)) (rows t.old) }
     ensures rows_reach { RowsReach (surface_of kind a b) (resolved_of sag angle segments) (length (rows t.old)) (rows t.new) }
 {
-    let surface = surface_of(kind, a, b);
-    let options = Resolved {
-        sag,
-        angle,
-        min_edge_segments: segments,
+    let patch = Patch {
+        surface: surface_of(kind, a, b),
+        frame: frame_of(frame),
+        options: Resolved {
+            sag,
+            angle,
+            min_edge_segments: segments,
+        },
     };
-    full_domain::table::full_domain_loop(surface, frame_of(frame), options, t)
+    full_domain::table::full_domain_loop(patch, t)
 }

@@ -9,15 +9,14 @@ use borrow.Author.Tests.{eq-eqb, ne_eqb, le-leb, lt-leb, le-ltb, lt-ltb}
 use lib.Ieee.{Float}
 use lib.ListN.{length, take, set, length-map, length-set}
 use lib.Seq.{take-add, take_at, drop_at, take-take, length-take-le}
-use Rattle.numbers.specs.declared.math.Frame.{Frame}
 use Rattle.numbers.specs.declared.math.Vec3.{Vec3}
-use Rattle.surfaces.specs.declared.options.Resolved.{Resolved}
-use Rattle.surfaces.specs.declared.surface.Surface.{Surface}
+use Rattle.surfaces.specs.declared.patch.Patch.{Patch}
 use Rattle.lists.specs.Pieces.{pieces}
 use Rattle.lists.specs.Placed.{placed}
 use Rattle.lists.proofs.Placed.{take-placed}
 use Rattle.tables.specs.Corners.{Corner, Corners}
 use Rattle.tables.specs.Rows.{rows}
+use Rattle.tables.specs.declared.corners.Corner.{Corner as Held}
 use Rattle.tables.proofs.Rows.{length-rows}
 use Rattle.loop_records.specs.declared.LoopRecord.{LoopRecord}
 use Rattle.loops.proofs.Trailing.{repeats_fewer}
@@ -93,8 +92,8 @@ passes≢refuses {n} {p} e = let z : ◌≡◌ {A = ℕ} 0 1 = cc in omega arith
 
 -- ---- the record
 
-module _ (s : List ℕ) (corners : List Float) (given : List ℕ) (loops : List LoopRecord) (frame : Frame) (surface : Surface) (options : Resolved) (sense : Bool) (a b : ℕ)
-    (f : BandFace s corners given loops frame surface options sense a b) where
+module _ (s : List ℕ) (corners : List Held) (given : List ℕ) (loops : List LoopRecord) (patch : Patch) (sense : Bool) (a b : ℕ)
+    (f : BandFace s corners given loops patch sense a b) where
   abbrev S : Setting Vec3
   S = setting_in s
 
@@ -151,7 +150,7 @@ module _ (s : List ℕ) (corners : List Float) (given : List ℕ) (loops : List 
 
   -- ---- how the band closes
 
-  module _ (r : Result Closed TooMany) (t : List Float) (now : List (Corners Vec3)) (is : BandIs S g r t now) where
+  module _ (r : Result Closed TooMany) (t : List Held) (now : List (Corners Vec3)) (is : BandIs S g r t now) where
     closed_short : (c : Closed) → r ≡ Ok c → (strip_points s ≤ version1.strip) × (c ≡ closed_as (outer S g))
     unfolding band_closing strip_points
     closed_short c e = by_room (dec_le (length (strip_of S g)) version1.strip)
@@ -191,8 +190,8 @@ module _ (s : List ℕ) (corners : List Float) (given : List ℕ) (loops : List 
 
   -- ---- the holes behind it
 
-  module _ (r : Result Closed TooMany) (t held : List Float) (is : BandIs S g r t (pieces (others a b given) (rows held))) (c : Closed) (closed : r ≡ Ok c)
-      (t_long : length t ≡ 7680) (held_long : length held ≡ 2560) where
+  module _ (r : Result Closed TooMany) (t held : List Held) (is : BandIs S g r t (pieces (others a b given) (rows held))) (c : Closed) (closed : r ≡ Ok c)
+      (t_long : length t ≡ 1536) (held_long : length held ≡ 512) where
     abbrev n : ℕ
     n = c.count
 
@@ -207,32 +206,32 @@ module _ (s : List ℕ) (corners : List Float) (given : List ℕ) (loops : List 
     band-few = let h = fits in let k = repeats_fewer (λ (c d : Corner Vec3). S.same c.at d.at) (strip_of S g) in let x = h.0 in let y = h.1.0 in omega arith
 
     picked : others a b given ≡ map length g.holes
-    picked = hole-counts s corners given loops frame surface options sense a b f
+    picked = hole-counts s corners given loops patch sense a b f
 
-    rows_are : (t' : List Float) → rows t' ≡ placed n (rows held) (rows t) → take (n + sum (others a b given)) (rows t') ≡ corners_of (wrapped_loops s)
+    rows_are : (t' : List Held) → rows t' ≡ placed n (rows held) (rows t) → take (n + sum (others a b given)) (rows t') ≡ corners_of (wrapped_loops s)
     unfolding strip_points
     rows_are t' put =
         let l = length-rows t in
         let k = length-rows held in
         let m = band-few in
-        let p = points-few s corners given loops frame surface options sense a b f in
+        let p = points-few s corners given loops patch sense a b f in
         let q = ap sum picked ∙ total-length g.holes in
         let band : take n (rows t) ≡ outer S g = ap (λ (j : ℕ). take j (rows t)) fits.1.0 ∙ is.band fits.0 in
         let behind : take (sum (others a b given)) (rows held) ≡ flatten hs = sym (flat_pieces (others a b given) (rows held)) ∙ ap flatten is.holes_are in
         placed_behind (rows held) (rows t) (rows t') n (sum (others a b given)) (omega arith) (omega arith) put ∙ (λ i. band i ++ behind i) ∙ sym corners_of_lem
 
-    pub filled_short : (t' : List Float) (counts counts' : List ℕ) (areas areas' : List Float) (m : ℕ) → length (set counts 0 n) ≡ 16 → length (set areas 0 area) ≡ 16
+    pub filled_short : (t' : List Held) (counts counts' : List ℕ) (areas areas' : List Float) (m : ℕ) → length (set counts 0 n) ≡ 16 → length (set areas 0 area) ≡ 16
         → rows t' ≡ placed n (rows held) (rows t) → counts' ≡ placed 1 (others a b given) (set counts 0 n)
         → areas' ≡ placed 1 (others a b (map signed_area (pieces given (rows corners)))) (set areas 0 area) → m ≡ length given - 1
         → FillsTo (verdict (strip_conditions version1) s) s (Ok (record { path = Wrapped; loops = m })) counts' areas' t'
     filled_short t' counts counts' areas areas' m in_counts in-areas put-rows put-counts put-areas m_is =
-        let two-less = holes-two_less s corners given loops frame surface options sense a b f in
+        let two-less = holes-two_less s corners given loops patch sense a b f in
         let lengths = ap length picked ∙ length-map g.holes length in
         let counts-kept = length-set counts 0 n in
         let areas-kept = length-set areas 0 area in
-        let limit = few s corners given loops frame surface options sense a b f in
+        let limit = few s corners given loops patch sense a b f in
         let many = result_many in
-        let picked-areas : others a b (map signed_area (pieces given (rows corners))) ≡ areas₀ = map-others a b signed_area 0 (pieces given (rows corners)) ∙ ap (map signed_area) (hole_lists s corners given loops frame surface options sense a b f) in
+        let picked-areas : others a b (map signed_area (pieces given (rows corners))) ≡ areas₀ = map-others a b signed_area 0 (pieces given (rows corners)) ∙ ap (map signed_area) (hole_lists s corners given loops patch sense a b f) in
         let areas_long = ap length picked-areas ∙ length-map g.holes signed_area in
         let as_many : length (wrapped_loops s) ≡ suc (length (others a b given)) = omega arith in
         let area-many : length (wrapped_loops s) ≡ suc (length (others a b (map signed_area (pieces given (rows corners))))) = omega arith in
@@ -254,5 +253,5 @@ module _ (s : List ℕ) (corners : List Float) (given : List ℕ) (loops : List 
         less : (x y : ℕ) → y + 2 ≡ x → x - 1 ≡ suc y
         less x y e = omega arith
 
-        summed : (t' : List Float) → rows t' ≡ placed n (rows held) (rows t) → take (sum (n ∷ others a b given)) (rows t') ≡ corners_of (wrapped_loops s)
+        summed : (t' : List Held) → rows t' ≡ placed n (rows held) (rows t) → take (sum (n ∷ others a b given)) (rows t') ≡ corners_of (wrapped_loops s)
         summed t' put = ap (λ (j : ℕ). take j (rows t')) (sum-cons n (others a b given)) ∙ rows_are t' put

@@ -11,6 +11,7 @@ use Rattle.numbers.specs.declared.math.Vec3.{Vec3}
 use Rattle.lists.specs.Pieces.{pieces}
 use Rattle.tables.specs.Corners.{Corners}
 use Rattle.tables.specs.Rows.{rows}
+use Rattle.tables.specs.declared.corners.Corner.{Corner as Held}
 use Rattle.tables.proofs.Rows.{length-rows}
 use Rattle.bands.specs.Given.{Given}
 use Rattle.bands.specs.Rings.{Face, laid, reseam, started, trial}
@@ -28,7 +29,7 @@ use Rattle.wrapped_region.proofs.Band.{closing_is, outer_in_front}
 use Rattle.records.specs.Limits.{version1}
 use Rattle.filling.specs.Band.{band_closing, BandIs}
 
-module _ (S : Setting Vec3) (counts : List ℕ) (first₀ later₀ holes₀ first₁ later₁ first₂ later₂ holes₂ first₃ later₃ : List Float) (ff lf : Bool) (n room : ℕ)
+module _ (S : Setting Vec3) (counts : List ℕ) (first₀ later₀ holes₀ first₁ later₁ first₂ later₂ holes₂ first₃ later₃ : List Held) (ff lf : Bool) (n room : ℕ)
     (laid_first : (hs : List (Corners Vec3)) → rows first₁ ≡ (laid S.period (held_in first₀ later₀ ff lf hs)).first)
     (laid_later : (hs : List (Corners Vec3)) → rows later₁ ≡ (laid S.period (held_in first₀ later₀ ff lf hs)).later)
     (seamed : face_in counts first₂ later₂ holes₂ ≡ reseam_within S.period counts n (face_in counts first₁ later₁ holes₀))
@@ -60,18 +61,16 @@ module _ (S : Setting Vec3) (counts : List ℕ) (first₀ later₀ holes₀ firs
   unfolding holes joined started trial
   holes_are = ap (λ (f : Face Vec3). f.holes) seamed_is
 
-  -- wall and t are the tables of close_ordered
-  pub between : (with₁ with₂ : Bool) (wall t t' : List Float) (r : Result Closed TooMany) → with₁ ≡ goes_with S given.first → with₂ ≡ goes_with S given.later
-      → length wall ≡ 2560 → length t ≡ 7680
-      → r ≡ closing_of S (lower_of S with₁ with₂ (rings_of first₃ later₃)) (upper_of S with₁ with₂ (rings_of first₃ later₃)) (room_for wall t)
-      → rows t' ≡ closed_into S (lower_of S with₁ with₂ (rings_of first₃ later₃)) (upper_of S with₁ with₂ (rings_of first₃ later₃)) (room_for wall t) (rows t)
+  -- close_ordered has room for a strip of k corners, and t is its table
+  pub between : (with₁ with₂ : Bool) (k : ℕ) (t t' : List Held) (r : Result Closed TooMany) → with₁ ≡ goes_with S given.first → with₂ ≡ goes_with S given.later
+      → r ≡ closing_of S (lower_of S with₁ with₂ (rings_of first₃ later₃)) (upper_of S with₁ with₂ (rings_of first₃ later₃)) k
+      → rows t' ≡ closed_into S (lower_of S with₁ with₂ (rings_of first₃ later₃)) (upper_of S with₁ with₂ (rings_of first₃ later₃)) k (rows t)
+      → k ≡ version1.strip → length t ≡ 1536
       → BandIs S given r t' (pieces counts (rows holes₂))
   unfolding band_closing
-  between with₁ with₂ wall t t' r e₁ e₂ wall-long t_long answer out =
+  between with₁ with₂ k t t' r e₁ e₂ answer out room_is t_long =
       let face : Face Vec3 = rings_of first₃ later₃ in
-      let k = length-rows wall in
       let l = length-rows t in
-      let room_is : room_for wall t ≡ version1.strip = omega arith in
       let within : version1.strip ≤ length (rows t) = omega arith in
       record {
         answer = answer ∙ (λ i. closing_of S (lower_of S (e₁ i) (e₂ i) face) (upper_of S (e₁ i) (e₂ i) face) (room_is i)) ∙ closing_is S given face first_is later_is version1.strip;
@@ -81,7 +80,7 @@ module _ (S : Setting Vec3) (counts : List ℕ) (first₀ later₀ holes₀ firs
       }
 
 -- the rings keep their lengths
-pub still_short : (first first₂ later later₂ : List Float) (n k l : ℕ) → k ≡ length first → length first₂ ≡ k → l ≡ length later → length later₂ ≡ l
+pub still_short : (first first₂ later later₂ : List Held) (n k l : ℕ) → k ≡ length first → length first₂ ≡ k → l ≡ length later → length later₂ ≡ l
     → length (rows first) + length (rows later) ≤ n → length (rows first₂) + length (rows later₂) ≤ n
 still_short first first₂ later later₂ n k l e₁ e₂ f₁ f₂ h =
     let a = length-rows first in

@@ -17,9 +17,9 @@ use Rattle.surfaces.specs.declared.surface.Surface.{Surface}
 use Rattle.surfaces.specs.Domains.{u_period, v_period, period_length}
 use Rattle.tables.specs.Corners.{Corners}
 use Rattle.tables.specs.Rows.{rows}
+use Rattle.tables.specs.declared.corners.Corner.{Corner as Held}
+use Rattle.closed_region.specs.declared.boxes.Bounds.{Bounds}
 use Rattle.tables.proofs.Rows.{length-rows}
-use Rattle.closed_region.specs.Loops.{boxes_in}
-use Rattle.closed_region.proofs.BoxTable.{length-boxes}
 use Rattle.records.specs.Accepted.{Accepted}
 use Rattle.lists.specs.Elements.{sum}
 use Rattle.records.specs.Face.{loops}
@@ -67,16 +67,15 @@ module _ (s : List ℕ) (a : Accepted version1 s) (some : 0 < loops s) (none : w
   whole : given ≡ map length (pieces given r)
   whole = sym (lengths_pieces given r (ap sum given_is ∙ sym (points-sum s) ∙ sym (length-corners s) ∙ ap length (sym r_is)))
 
-  module _ (m : List Float) (m_is : m ≡ map signed_area (pieces given r)) (boxes : List Float) (boxes_long : length boxes ≡ 64) where
+  module _ (m : List Float) (m_is : m ≡ map signed_area (pieces given r)) (boxes : List Bounds) (boxes_long : length boxes ≡ 16) where
     areas_long : length m ≡ length given
     areas_long = ap length m_is ∙ length-map (pieces given r) signed_area ∙ length-pieces given r
 
-    face : IsFace given r m (length (boxes_in boxes))
+    face : IsFace given r m (length boxes)
     face =
         let f = few in
         let e = counted in
         let long = areas_long in
-        let b = length-boxes boxes in
         record {
           some = omega arith;
           whole = whole;
@@ -94,18 +93,18 @@ module _ (s : List ℕ) (a : Accepted version1 s) (some : 0 < loops s) (none : w
 
       result_many : length given ≡ length result
       result_many =
-          sym (length-first (outer_found given r m (length (boxes_in boxes))) 1 given)
-          ∙ ap length (counts_left given r m (length (boxes_in boxes)) (period_length u) (period_length v) face) ∙ length-map result count_of
+          sym (length-first (outer_found given r m (length boxes)) 1 given)
+          ∙ ap length (counts_left given r m (length boxes) (period_length u) (period_length v) face) ∙ length-map result count_of
 
-      pub closed_filled : (r' : Corners Vec3) (a' t₀ t : List Float) (c₀ c : List ℕ) (x₀ x : List Float)
-          → (let found = outer_found given r m (length (boxes_in boxes)) in
-          (r' ≡ rows_then given r m (length (boxes_in boxes)) (period_length u) (period_length v)) → a' ≡ areas_left given r m (length (boxes_in boxes)) (period_length u) (period_length v)
+      pub closed_filled : (r' : Corners Vec3) (a' : List Float) (t₀ t : List Held) (c₀ c : List ℕ) (x₀ x : List Float)
+          → (let found = outer_found given r m (length boxes) in
+          (r' ≡ rows_then given r m (length boxes) (period_length u) (period_length v)) → a' ≡ areas_left given r m (length boxes) (period_length u) (period_length v)
           → rows t ≡ placed 0 (flatten (part_first found 1 (pieces given r'))) (rows t₀)
           → c ≡ cond (ltb found (length given)) (placed 0 (part_first found 1 given) c₀) c₀
           → x ≡ placed 0 (part_first found 1 (take (length given) a')) x₀
-          → length t₀ ≡ 7680 → length c₀ ≡ 16 → length x₀ ≡ 16 → FillsTo passes s (Ok (record { path = Closed; loops = length given })) c x t)
+          → length t₀ ≡ 1536 → length c₀ ≡ 16 → length x₀ ≡ 16 → FillsTo passes s (Ok (record { path = Closed; loops = length given })) c x t)
       closed_filled r' a' t₀ t c₀ c x₀ x r-then a-left t_is c_is x_is t-room c-room x-room =
-          let left = closed-result given r m (length (boxes_in boxes)) (period_length u) (period_length v) face r' a' (rows t₀) (rows t) c₀ c x₀ x r-then a-left t_is c_is x_is in
+          let left = closed-result given r m (length boxes) (period_length u) (period_length v) face r' a' (rows t₀) (rows t) c₀ c x₀ x r-then a-left t_is c_is x_is in
           let fine = result_fine version1 version1_encodable s a.loops_are a.total (λ wraps. absurd (wraps none)) in
           let corners = fine.corners in
           let together : sum (map count_of (result_loops s)) ≡ length (corners_of result) = ap (λ (k : List ResultLoop). sum (map count_of k)) (sym result_is) ∙ counts_together result in

@@ -12,13 +12,12 @@ use lib.Signed.{lt_z}
 use lib.IntN.{ℤ, pos, negsuc}
 use lib.Ieee.{Float}
 use lib.ListN.{length, replicate}
-use Rattle.numbers.specs.declared.math.Frame.{Frame}
-use Rattle.surfaces.specs.declared.options.Resolved.{Resolved}
-use Rattle.surfaces.specs.declared.surface.Surface.{Surface}
+use Rattle.surfaces.specs.declared.patch.Patch.{Patch}
 use Rattle.surfaces.specs.Domains.{u_period}
 use Rattle.lists.specs.Pieces.{pieces}
 use Rattle.lists.specs.Placed.{placed}
 use Rattle.tables.specs.Rows.{rows}
+use Rattle.tables.specs.declared.corners.Corner.{Corner as Held}
 use Rattle.loop_records.specs.declared.LoopRecord.{LoopRecord}
 use Rattle.loop_records.specs.Record.{no_loop}
 use Rattle.bands.specs.Given.{falls}
@@ -35,7 +34,7 @@ use Rattle.loop_records.specs.Loops.{records_from}
 use Rattle.call.specs.Later.{wraps_at}
 use Rattle.measuring.specs.LastWhere.{last_where}
 use Rattle.holes.specs.Others.{others}
-use Rattle.filling.specs.Band.{BandFace}
+use Rattle.filling.specs.Band.{patch_in, BandFace}
 use Rattle.filling.proofs.TwoRings.{some_first, some_last}
 
 negative : (z : ℤ) → lt_z z (pos 0) ≡ falls z
@@ -55,21 +54,19 @@ number_found : (p : Option ℕ) (q : Sought.Place) (n : ℕ) → place_of p ≡ 
 number_found None q n e some is = absurd (some (sym e))
 number_found (Some k) q n e some is = sym e ∙ ap at (sym is)
 
-pub face_of_lem : (s : List ℕ) (corners : List Float) (given : List ℕ) (loops : List LoopRecord) (wraps : List ℤ) (frame : Frame) (surface : Surface) (options : Resolved) (sense : Bool) (p q : Option ℕ) (a b : ℕ)
-    → Accepted version1 s → wrapping s ≡ 2 → given ≡ counts s → rows corners ≡ corners_in s → loops ≡ placed 0 (records_from (u_period surface) 0 (pieces given (rows corners))) (replicate 16 no_loop)
-    → wraps ≡ wraps_in s → surface ≡ surface_in s → frame ≡ frame_in s → options ≡ options_in s → sense ≡ sense_in s
+pub face_of_lem : (s : List ℕ) (corners : List Held) (given : List ℕ) (loops : List LoopRecord) (wraps : List ℤ) (patch : Patch) (sense : Bool) (p q : Option ℕ) (a b : ℕ)
+    → Accepted version1 s → wrapping s ≡ 2 → given ≡ counts s → rows corners ≡ corners_in s → loops ≡ placed 0 (records_from (u_period patch.surface) 0 (pieces given (rows corners))) (replicate 16 no_loop)
+    → wraps ≡ wraps_in s → patch ≡ patch_in s → sense ≡ sense_in s
     → place_of p ≡ last_where (length wraps) (wraps_at wraps) → a ≡ unwrap_or p 0
     → place_of q ≡ first_where (length wraps) (wraps_at wraps) → b ≡ unwrap_or q 0
-    → BandFace s corners given loops frame surface options sense a b
-face_of_lem s corners given loops wraps frame surface options sense p q a b acc two given_is corners_are loops_are wraps_are surface_is frame_is options_are sense_is p_is a_is q_is b_is = record {
+    → BandFace s corners given loops patch sense a b
+face_of_lem s corners given loops wraps patch sense p q a b acc two given_is corners_are loops_are wraps_are patch_is sense_is p_is a_is q_is b_is = record {
   accepted = acc;
   two = two;
   given_is = given_is;
   corners_are = corners_are;
   loops_are = loops_are;
-  frame_is = frame_is;
-  surface_is = surface_is;
-  options_are = options_are;
+  patch_is = patch_is;
   sense_is = sense_is;
   first_is = number_found p _ a (p_is ∙ ap (λ (ws : List ℤ). last_where (length ws) (wraps_at ws)) wraps_are) (some_last s two) a_is;
   later_is = number_found q _ b (q_is ∙ ap (λ (ws : List ℤ). first_where (length ws) (wraps_at ws)) wraps_are) (some_first s two) b_is;

@@ -10,6 +10,7 @@ use Rattle.lists.specs.Placed.{placed}
 use Rattle.lists.proofs.Placed.{placed-fits, front-placed}
 use Rattle.tables.specs.Corners.{Corners}
 use Rattle.tables.specs.Rows.{rows}
+use Rattle.tables.specs.declared.corners.Corner.{Corner as Held}
 use Rattle.lists.specs.Elements.{sum}
 use Rattle.records.specs.Refusals.{passes}
 use Rattle.records.specs.Result.{Loop, corners_of, count_of, area_of}
@@ -23,7 +24,7 @@ unfolding sum corners_of
 counts_together [] = refl
 counts_together (l ∷ ls) = ap (λ (n : ℕ). count_of l + n) (counts_together ls) ∙ sym (length-append l.corners (corners_of ls))
 
-module _ (ls : List ResultLoop) (c₀ c : List ℕ) (a₀ a : List Float) (r₀ : Corners Vec3) (t : List Float) where
+module _ (ls : List ResultLoop) (c₀ c : List ℕ) (a₀ a : List Float) (r₀ : Corners Vec3) (t : List Held) where
   pub held_in_front : c ≡ placed 0 (map count_of ls) c₀ → a ≡ placed 0 (map area_of ls) a₀ → rows t ≡ placed 0 (corners_of ls) r₀
       → length ls ≤ length c₀ → length ls ≤ length a₀ → length (corners_of ls) ≤ length r₀ → HoldsResult ls (take (length ls) c) a t
   held_in_front c_is a_is t_is c-room a-room r-room =
@@ -44,7 +45,7 @@ set_front x [] h = absurd (omega arith)
 set_front x (y ∷ l) h = sym (placed-fits 0 (x ∷ []) (y ∷ l) h)
 
 -- a face that is closed
-pub filled_by_lem : (s : List ℕ) (path : Path) (ls : List ResultLoop) (n : ℕ) (counts : List ℕ) (areas t : List Float) → path ≡ path_taken s → ls ≡ result_loops s → n ≡ length ls
+pub filled_by_lem : (s : List ℕ) (path : Path) (ls : List ResultLoop) (n : ℕ) (counts : List ℕ) (areas : List Float) (t : List Held) → path ≡ path_taken s → ls ≡ result_loops s → n ≡ length ls
     → HoldsResult ls (take (length ls) counts) areas t → FillsTo passes s (Ok (record { path = path; loops = n })) counts areas t
 filled_by_lem s path ls n counts areas t path_is ls_is n_is h = record {
   answer = refl;

@@ -9,6 +9,7 @@ use lib.Ieee.{Float}
 use lib.ListN.{length, take}
 use lib.Seq.{take-length, length-take-le}
 use Rattle.tables.specs.Rows.{rows}
+use Rattle.tables.specs.declared.corners.Corner.{Corner as Held}
 use Rattle.tables.proofs.Rows.{length-rows}
 use Rattle.std.specs.Prelude.{Option}
 use Rattle.std.specs.Bool.{then_some}
@@ -42,7 +43,7 @@ counts_told s c₀ c r h l l_is =
 pub counts_many : (s c₀ c : List ℕ) (r : Option ℕ) → CountsRead s c₀ c r → length c ≡ length c₀ → (l : ℕ) → l ≡ unwrap_or r 0 → l ≡ length (take l c)
 counts_many s c₀ c r h kept l l_is = let b = counts_told s c₀ c r h l l_is in sym (length-take-le l c (omega arith))
 
-pub corners_told : (s : List ℕ) (t t' : List Float) (r : Option ℕ) → CornersRead s t t' r → (n : ℕ) → n ≡ unwrap_or r 0 → n ≤ length (rows t)
+pub corners_told : (s : List ℕ) (t t' : List Held) (r : Option ℕ) → CornersRead s t t' r → (n : ℕ) → n ≡ unwrap_or r 0 → n ≤ length (rows t)
 unfolding points_fit
 corners_told s t t' r h n n_is =
     let m = length-corners s in
@@ -51,17 +52,17 @@ corners_told s t t' r h n n_is =
     let e : n ≡ unwrap_or (then_some (points_fit s (length (rows t))) (length (corners_in s))) 0 = n_is ∙ ap (λ (o : Option ℕ). unwrap_or o 0) h.answer in
     omega arith
 
--- in reals, of a table of m
-pub reals_told : (s : List ℕ) (t t' : List Float) (r : Option ℕ) → CornersRead s t t' r → (n : ℕ) → n ≡ unwrap_or r 0 → 5 * n ≤ length t
-reals_told s t t' r h n n_is = let b = corners_told s t t' r h n n_is in let l = length-rows t in omega arith
+-- of a table
+pub rows_told : (s : List ℕ) (t t' : List Held) (r : Option ℕ) → CornersRead s t t' r → (n : ℕ) → n ≡ unwrap_or r 0 → n ≤ length t
+rows_told s t t' r h n n_is = let b = corners_told s t t' r h n n_is in let l = length-rows t in omega arith
 
 -- ---- a record that is accepted
 
 module _ (s : List ℕ) (a : Accepted version1 s) where
   pub read_as : (h₀ h : List Float) (hr : Option ℕ) → HeadRead s h₀ h hr → length h₀ ≡ 13 → length h ≡ 13
       → (c₀ c : List ℕ) (r : Option ℕ) → CountsRead s c₀ c r → length c₀ ≡ 16 → (l : ℕ) → l ≡ unwrap_or r 0
-      → (t t' : List Float) (q : Option ℕ) → CornersRead s t t' q → length t ≡ 2560 → (n : ℕ) → n ≡ unwrap_or q 0
-      → ReadAs s h (take l c) (take (5 * n) t')
+      → (t t' : List Held) (q : Option ℕ) → CornersRead s t t' q → length t ≡ 512 → (n : ℕ) → n ≡ unwrap_or q 0
+      → ReadAs s h (take l c) (take n t')
   read_as h₀ h hr hs h-room h-long c₀ c r cs c-room l l_is t t' q ts t-room n n_is =
       let few = a.loops_are in
       let total = a.total in
@@ -73,5 +74,5 @@ module _ (s : List ℕ) (a : Accepted version1 s) where
       record {
         head_is = sym (ap (λ (k : ℕ). take k h) (sym h-long) ∙ take-length h) ∙ head_read_back s a h₀ h hr hs (omega arith);
         counts_are = ap (λ (k : ℕ). take k c) many ∙ of-counts.0;
-        corners_are = ap (λ (k : ℕ). rows (take (5 * k) t')) far ∙ of-corners.0;
+        corners_are = ap (λ (k : ℕ). rows (take k t')) far ∙ of-corners.0;
       }

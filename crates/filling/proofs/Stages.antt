@@ -12,9 +12,12 @@ use Rattle.lists.specs.Pieces.{pieces}
 use Rattle.lists.specs.Placed.{placed}
 use Rattle.numbers.specs.declared.math.Frame.{Frame}
 use Rattle.surfaces.specs.declared.options.Resolved.{Resolved}
+use Rattle.surfaces.specs.declared.patch.Patch.{Patch}
 use Rattle.surfaces.specs.declared.surface.Surface.{Surface}
+use Rattle.filling.specs.Band.{patch_in}
 use Rattle.surfaces.specs.Domains.{u_period}
 use Rattle.tables.specs.Rows.{rows}
+use Rattle.tables.specs.declared.corners.Corner.{Corner as Held}
 use Rattle.loop_records.specs.declared.LoopRecord.{LoopRecord}
 use Rattle.loop_records.specs.Record.{no_loop}
 use Rattle.records.specs.Accepted.{Accepted}
@@ -69,7 +72,7 @@ module _ (s : List ℕ) (ds : List Condition) where
       by_place (at k) h ih = absurd (let z : ◌≡◌ {A = ℕ} 0 1 = cc in omega arith)
 
 -- a refusal is filled so, whatever the lent tables hold
-pub refused_by : (v : Verdict) (s : List ℕ) (r : Refusal) → refuses (refusal_number r) (refusal_place r) ≡ v → (counts : List ℕ) (areas t : List Float)
+pub refused_by : (v : Verdict) (s : List ℕ) (r : Refusal) → refuses (refusal_number r) (refusal_place r) ≡ v → (counts : List ℕ) (areas : List Float) (t : List Held)
     → FillsTo v s (Err r) counts areas t
 refused_by v s r e counts areas t = record {
   answer = e;
@@ -80,11 +83,11 @@ refused_by v s r e counts areas t = record {
 -- ---- cs are judged first
 
 module _ (s : List ℕ) (cs ds : List Condition) where
-  pub refused_as : (r : Refusal) → refuses (refusal_number r) (refusal_place r) ≡ verdict cs s → (counts : List ℕ) (areas t : List Float)
+  pub refused_as : (r : Refusal) → refuses (refusal_number r) (refusal_place r) ≡ verdict cs s → (counts : List ℕ) (areas : List Float) (t : List Held)
       → FillsTo (verdict (cs ++ ds) s) s (Err r) counts areas t
   refused_as r e counts areas t = refused_by _ s r (sym (first_refuse s ds cs _ _ (sym e))) counts areas t
 
-  pub filled_as : passes ≡ verdict cs s → (r : Result FilledFace Refusal) (counts : List ℕ) (areas t : List Float) → FillsTo (verdict ds s) s r counts areas t
+  pub filled_as : passes ≡ verdict cs s → (r : Result FilledFace Refusal) (counts : List ℕ) (areas : List Float) (t : List Held) → FillsTo (verdict ds s) s r counts areas t
       → FillsTo (verdict (cs ++ ds) s) s r counts areas t
   filled_as e r counts areas t = subst (λ (v : Verdict). FillsTo v s r counts areas t) (sym (first_pass s ds cs (sym e)))
 
@@ -93,7 +96,7 @@ accepted_as s e = (accepted_exactly s version1).0 (sym e)
 
 -- ---- the three paths
 
-module _ (s : List ℕ) (a : Accepted version1 s) (head : List Float) (counts : List ℕ) (t : List Float) (read : ReadAs s head counts t) where
+module _ (s : List ℕ) (a : Accepted version1 s) (head : List Float) (counts : List ℕ) (t : List Held) (read : ReadAs s head counts t) where
   pub counted : length counts ≡ loops s
   counted = ap length read.counts_are ∙ length-counts s
 
@@ -122,17 +125,25 @@ module _ (s : List ℕ) (a : Accepted version1 s) (head : List Float) (counts : 
   unfolding verdict long_strip
   no_strip h = rw (ne_eqb (wrapping s) 2 h)
 
-  pub frame_in_lem : (f : Frame) → f ≡ frame_at head → f ≡ frame_in s
-  frame_in_lem f e = e ∙ ap frame_at read.head_is ∙ frame_read s
+  pub patch_in_lem : (surface : Surface) → surface ≡ surface_in s → (p : Patch) → p ≡ record { surface = surface; frame = frame_at head; options = options_at head (Record.segments s) }
+      → p ≡ patch_in s
+  patch_in_lem surface surface_is p e = e ∙ (λ i. record {
+    surface = surface_is i;
+    frame = (ap frame_at read.head_is ∙ frame_read s) i;
+    options = (ap (λ (h : List Float). options_at h (Record.segments s)) read.head_is ∙ options_read s) i;
+  })
 
-  pub options_in_lem : (segments : ℕ) → segments ≡ Record.segments s → (o : Resolved) → o ≡ options_at head segments → o ≡ options_in s
-  options_in_lem segments segments_are o e = e ∙ (λ i. options_at (read.head_is i) (segments_are i)) ∙ options_read s
+  pub recorded_on : (surface : Surface) (frame : Frame) (options : Resolved) (p : Patch) → p ≡ record { surface = surface; frame = frame; options = options }
+      → (loops : List LoopRecord) → loops ≡ placed 0 (records_from (u_period surface) 0 (pieces counts (rows t))) (replicate 16 no_loop)
+      → loops ≡ placed 0 (records_from (u_period p.surface) 0 (pieces counts (rows t))) (replicate 16 no_loop)
+  recorded_on surface frame options p e loops recorded =
+      recorded ∙ ap (λ (q : Patch). placed 0 (records_from (u_period q.surface) 0 (pieces counts (rows t))) (replicate 16 no_loop)) (sym e)
 
   pub sense_in_lem : (sense : ℕ) → sense ≡ Record.sense s → (sense =? 1) ≡ sense_in s
   unfolding sense_in
   sense_in_lem sense sense_is = ap (λ (k : ℕ). k =? 1) sense_is
 
-  module _ (r : Result FilledFace Refusal) (counts' : List ℕ) (areas' t' : List Float) (f : FillsTo passes s r counts' areas' t') where
+  module _ (r : Result FilledFace Refusal) (counts' : List ℕ) (areas' : List Float) (t' : List Held) (f : FillsTo passes s r counts' areas' t') where
     unwrapped : wrapping s ≡ 0 → FillsTo (verdict (strip_conditions version1) s) s r counts' areas' t'
     unwrapped e = subst (λ (v : Verdict). FillsTo v s r counts' areas' t') (no_strip (λ two. omega arith)) f
 
@@ -146,7 +157,7 @@ module _ (s : List ℕ) (a : Accepted version1 s) (head : List Float) (counts : 
     pub none-wraps : n ≡ 0 → wrapping s ≡ 0
     none-wraps e = wrap_many ∙ e
 
-    pub closed_filled : n ≡ 0 → (r : Result FilledFace Refusal) (counts' : List ℕ) (areas' t' : List Float) → FillsTo passes s r counts' areas' t'
+    pub closed_filled : n ≡ 0 → (r : Result FilledFace Refusal) (counts' : List ℕ) (areas' : List Float) (t' : List Held) → FillsTo passes s r counts' areas' t'
         → FillsTo (verdict (strip_conditions version1) s) s r counts' areas' t'
     closed_filled e r counts' areas' t' f = unwrapped r counts' areas' t' f (none-wraps e)
 
@@ -169,7 +180,7 @@ module _ (s : List ℕ) (a : Accepted version1 s) (head : List Float) (counts : 
       pub wraps_in_lem : (w : List ℤ) → w ≡ map (λ (one : LoopRecord). one.wrap) records → take l w ≡ wraps_in s
       wraps_in_lem w e =
           ap (λ (k : ℕ). take k w) l_is ∙ read_out (λ (one : LoopRecord). one.wrap) p counts (rows t) records w few-counts recorded e
-          ∙ ap (λ (q : Period). map (λ (one : LoopRecord). one.wrap) (records_from q 0 (pieces counts (rows t)))) (p_is ∙ ap u_period surface_is)
+          ∙ ap (λ (q : Option Float). map (λ (one : LoopRecord). one.wrap) (records_from q 0 (pieces counts (rows t)))) (p_is ∙ ap u_period surface_is)
           ∙ wraps_shown s (pieces counts (rows t)) held
 
       pub areas_in : (m : List Float) → m ≡ map (λ (one : LoopRecord). one.area) records → take l m ≡ map signed_area (pieces counts (rows t))

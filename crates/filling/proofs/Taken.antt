@@ -7,10 +7,8 @@ use native.Mathlib.Omega.{arith}
 use lib.Ieee.{Float}
 use lib.ListN.{length, get_or, take, drop, length-map}
 use Rattle.std.proofs.Common.{Option}
-use Rattle.numbers.specs.declared.math.Frame.{Frame}
 use Rattle.numbers.specs.declared.math.Vec3.{Vec3}
-use Rattle.surfaces.specs.declared.options.Resolved.{Resolved}
-use Rattle.surfaces.specs.declared.surface.Surface.{Surface}
+use Rattle.surfaces.specs.declared.patch.Patch.{Patch}
 use Rattle.surfaces.specs.Domains.{u_period, period_length}
 use Rattle.lists.specs.Pieces.{pieces}
 use Rattle.lists.specs.Placed.{placed}
@@ -20,10 +18,11 @@ use Rattle.lists.proofs.Places.{length-places}
 use Rattle.lists.proofs.Placed.{placed-fits, front-placed}
 use Rattle.tables.specs.Corners.{Corners, us}
 use Rattle.tables.specs.Rows.{rows}
+use Rattle.tables.specs.declared.corners.Corner.{Corner as Held}
 use Rattle.tables.proofs.Rows.{length-rows, rows_take}
 use Rattle.loop_records.specs.declared.LoopRecord.{LoopRecord}
 use Rattle.loop_records.specs.Record.{no_loop}
-use Rattle.bands.specs.Columns.{setting_of}
+use Rattle.bands.specs.Columns.{setting_on}
 use Rattle.bands.specs.Given.{Measured, Given, Loop, falls}
 use Rattle.bands.specs.Strip.{Setting}
 use Rattle.std.specs.Prelude.{Result}
@@ -46,8 +45,8 @@ use Rattle.filling.proofs.Others.{others_many, total-length, pieces-front, piece
 use Rattle.filling.proofs.Recorded.{corners_there, count_there, falls_there}
 use Rattle.filling.proofs.TwoRings.{inside, apart, holes-given, points_parted}
 
-module _ (s : List ℕ) (corners : List Float) (given : List ℕ) (loops : List LoopRecord) (frame : Frame) (surface : Surface) (options : Resolved) (sense : Bool) (a b : ℕ)
-    (f : BandFace s corners given loops frame surface options sense a b) where
+module _ (s : List ℕ) (corners : List Held) (given : List ℕ) (loops : List LoopRecord) (patch : Patch) (sense : Bool) (a b : ℕ)
+    (f : BandFace s corners given loops patch sense a b) where
   pub loops_held : pieces given (rows corners) ≡ loops_in s
   unfolding loops_in
   loops_held = λ i. pieces (f.given_is i) (f.corners_are i)
@@ -99,32 +98,32 @@ module _ (s : List ℕ) (corners : List Float) (given : List ℕ) (loops : List 
   module _ (k : ℕ) (h : k < length given) where
     ring-corners : take (get_or loops k no_loop).count (drop (get_or loops k no_loop).start (rows corners)) ≡ (loop_in s k).corners
     ring-corners =
-        corners_there (u_period surface) given (rows corners) loops f.loops_are few k h ∙ ap (λ (l : List (Corners Vec3)). get_or l k []) loops_held ∙ sym (corners_in_lem s k)
+        corners_there (u_period patch.surface) given (rows corners) loops f.loops_are few k h ∙ ap (λ (l : List (Corners Vec3)). get_or l k []) loops_held ∙ sym (corners_in_lem s k)
 
     ring-count : (get_or loops k no_loop).count ≡ length (loop_in s k).corners
     ring-count =
-        count_there (u_period surface) given (rows corners) loops f.loops_are few k h
+        count_there (u_period patch.surface) given (rows corners) loops f.loops_are few k h
         ∙ ap length (ap (λ (l : List (Corners Vec3)). get_or l k []) loops_held ∙ sym (corners_in_lem s k))
 
     ring-falls : falls (get_or loops k no_loop).travel ≡ falls (loop_in s k).wrap
     unfolding loop_in measured_in
     ring-falls =
         let m = many in
-        falls_there (u_period surface) given (rows corners) loops f.loops_are few k h
-        ∙ (λ i. falls (net_wrap (u_period (f.surface_is i)) (us (get_or (loops_held i) k []))))
+        falls_there (u_period patch.surface) given (rows corners) loops f.loops_are few k h
+        ∙ (λ i. falls (net_wrap (u_period (f.patch_is i).surface) (us (get_or (loops_held i) k []))))
         ∙ sym (ap (λ (m : Measured Vec3). falls m.wrap) (get_d_map (λ (l : Corners Vec3). record { corners = l; wrap = net_wrap (u_period (surface_in s)) (us l) }) (loops_in s) k none [] (omega arith)))
 
     -- in the front of a table
-    pub ring-taken : (one : LoopRecord) (d d' : List Float) (m : ℕ) → one ≡ get_or loops k no_loop → length d ≡ 2560 → length (loop_in s k).corners ≤ version1.points
-        → m ≡ 5 * min one.count version1.points → rows d' ≡ placed 0 (take one.count (drop one.start (rows corners))) (rows d)
+    pub ring-taken : (one : LoopRecord) (d d' : List Held) (m : ℕ) → one ≡ get_or loops k no_loop → length d ≡ 512 → length (loop_in s k).corners ≤ version1.points
+        → m ≡ min one.count version1.points → rows d' ≡ placed 0 (take one.count (drop one.start (rows corners))) (rows d)
         → rows (take m d') ≡ (loop_in s k).corners
     ring-taken one d d' m one_is long short m_is put =
         let w : Corners Vec3 = (loop_in s k).corners in
         let w_is : take one.count (drop one.start (rows corners)) ≡ w = ap (λ (q : LoopRecord). take q.count (drop q.start (rows corners))) one_is ∙ ring-corners in
         let count : one.count ≡ length w = ap (λ (q : LoopRecord). q.count) one_is ∙ ring-count in
         let room = length-rows d in
-        let reals : m ≡ 5 * length w = omega arith in
-        ap (λ (j : ℕ). rows (take j d')) reals ∙ rows_take (length w) d' ∙ ap (take (length w)) (put ∙ ap (λ (l : Corners Vec3). placed 0 l (rows d)) w_is)
+        let many : m ≡ length w = omega arith in
+        ap (λ (j : ℕ). rows (take j d')) many ∙ rows_take (length w) d' ∙ ap (take (length w)) (put ∙ ap (λ (l : Corners Vec3). placed 0 l (rows d)) w_is)
         ∙ front-placed w (rows d) (omega arith)
 
     pub falls-taken : (one : LoopRecord) (t : Bool) → one ≡ get_or loops k no_loop → t ≡ falls one.travel → t ≡ falls (loop_in s k).wrap
@@ -144,7 +143,7 @@ module _ (s : List ℕ) (corners : List Float) (given : List ℕ) (loops : List 
       let all : k ≡ length (others a b given) = omega arith in
       (λ i. take (all i) (put i)) ∙ front-placed (others a b given) d (omega arith)
 
-  pub holes-taken : (d d' : List Float) → version1.points ≤ length (rows d) → rows d' ≡ placed 0 (flatten (others a b (pieces given (rows corners)))) (rows d) → pieces (others a b given) (rows d') ≡ hs
+  pub holes-taken : (d d' : List Held) → version1.points ≤ length (rows d) → rows d' ≡ placed 0 (flatten (others a b (pieces given (rows corners)))) (rows d) → pieces (others a b given) (rows d') ≡ hs
   holes-taken d d' room put =
       let p = points-few in
       (λ i. pieces (hole-counts i) ((put ∙ ap (λ (l : List (Corners Vec3)). placed 0 (flatten l) (rows d)) hole_lists ∙ placed-fits 0 (flatten hs) (rows d) (omega arith)) i))
@@ -152,13 +151,13 @@ module _ (s : List ℕ) (corners : List Float) (given : List ℕ) (loops : List 
 
   -- ---- the band
 
-  setting_taken : (p : Option Float) (period : Float) → p ≡ u_period surface → period ≡ period_length p → setting_of frame surface options period sense ≡ setting_in s
+  setting_taken : (p : Option Float) (period : Float) → p ≡ u_period patch.surface → period ≡ period_length p → setting_on patch period sense ≡ setting_in s
   unfolding setting_in
   setting_taken p period p_is period_is =
-      let e : period ≡ period_length (u_period (surface_in s)) = period_is ∙ ap period_length (p_is ∙ ap u_period f.surface_is) in
-      λ i. setting_of (f.frame_is i) (f.surface_is i) (f.options_are i) (e i) (f.sense_is i)
+      let e : period ≡ period_length (u_period (surface_in s)) = period_is ∙ ap period_length (p_is ∙ ap u_period (ap (λ (p : Patch). p.surface) f.patch_is)) in
+      λ i. setting_on (f.patch_is i) (e i) (f.sense_is i)
 
-  module _ (first later holes : List Float) (counts : List ℕ) (ff lf : Bool)
+  module _ (first later holes : List Held) (counts : List ℕ) (ff lf : Bool)
       (first_is : rows first ≡ (loop_in s a).corners) (later_is : rows later ≡ (loop_in s b).corners) (ff_is : ff ≡ falls (loop_in s a).wrap) (lf_is : lf ≡ falls (loop_in s b).wrap)
       (counts_are : counts ≡ others a b given) (holes_are : pieces (others a b given) (rows holes) ≡ hs) where
     given-taken : held_in first later ff lf (pieces counts (rows holes)) ≡ given_in s
@@ -184,9 +183,9 @@ module _ (s : List ℕ) (corners : List Float) (given : List ℕ) (loops : List 
         let m = few in
         omega arith
 
-    pub band-taken : (p : Option Float) (period : Float) (r : Result Closed TooMany) (t' holes' : List Float) → p ≡ u_period surface → period ≡ period_length p
+    pub band-taken : (p : Option Float) (period : Float) (r : Result Closed TooMany) (t' holes' : List Held) → p ≡ u_period patch.surface → period ≡ period_length p
         → (length counts ≤ version1.loops → length (rows first) + length (rows later) ≤ version1.points
-        → BandIs (setting_of frame surface options period sense) (held_in first later ff lf (pieces counts (rows holes))) r t' (pieces counts (rows holes')))
+        → BandIs (setting_on patch period sense) (held_in first later ff lf (pieces counts (rows holes))) r t' (pieces counts (rows holes')))
         → BandIs (setting_in s) (given_in s) r t' (pieces (others a b given) (rows holes'))
     band-taken p period r t' holes' p_is period_is is =
         subst (λ (ns : List ℕ). BandIs (setting_in s) (given_in s) r t' (pieces ns (rows holes'))) counts_are
@@ -200,5 +199,5 @@ module _ (s : List ℕ) (corners : List Float) (given : List ℕ) (loops : List 
   pub later_short : length (loop_in s b).corners ≤ version1.points
   later_short = let e = ap (λ (l : Loop Vec3). length l.corners) (later-given s f.two b f.later_is) in let p = points-few in omega arith
 
-pub room_in : (d : List Float) → length d ≡ 2560 → version1.points ≤ length (rows d)
+pub room_in : (d : List Held) → length d ≡ 512 → version1.points ≤ length (rows d)
 room_in d long = let l = length-rows d in omega arith

@@ -9,9 +9,12 @@ use Rattle.numbers.specs.declared.math.Frame.{Frame}
 use Rattle.numbers.specs.declared.math.Vec3.{Vec3}
 use Rattle.lists.specs.Placed.{placed}
 use Rattle.surfaces.specs.declared.options.Resolved.{Resolved}
+use Rattle.surfaces.specs.declared.patch.Patch.{Patch}
 use Rattle.surfaces.specs.declared.surface.Surface.{Surface}
+use Rattle.filling.specs.Band.{patch_in}
 use Rattle.tables.specs.Corners.{Corners}
 use Rattle.tables.specs.Rows.{rows}
+use Rattle.tables.specs.declared.corners.Corner.{Corner as Held}
 use Rattle.tables.proofs.Rows.{length-rows}
 use Rattle.full_domain.specs.Boundary.{whole_corners, whole_area, area_within}
 use Rattle.full_domain.specs.Table.{placed_corner, whole_rows}
@@ -20,29 +23,38 @@ use Rattle.records.specs.Face.{loops}
 use Rattle.records.specs.Refusals.{passes}
 use Rattle.records.specs.Result.{corners_of}
 use Rattle.results.specs.declared.Path.TheVariants.{Whole}
-use Rattle.call.specs.Face.{surface_in, frame_in, options_in}
 use Rattle.call.specs.Paths.{ResultLoop, loop_of, whole_loop}
 use Rattle.std.specs.Prelude.{Ok}
 use Rattle.filling.specs.Filled.{FillsTo}
 use Rattle.filling.proofs.Chosen.{takes_whole, path_whole}
 use Rattle.filling.proofs.Held.{held_in_front, set_front, filled_by_lem}
 
-module _ (s : List ℕ) (bare : loops s ≡ 0) (surface : Surface) (frame : Frame) (options : Resolved)
-    (surface_is : surface ≡ surface_in s) (frame_is : frame ≡ frame_in s) (options_are : options ≡ options_in s) where
+module _ (s : List ℕ) (bare : loops s ≡ 0) (patch : Patch) (patch_is : patch ≡ patch_in s) where
+  abbrev surface : Surface
+  surface = patch.surface
+
+  abbrev frame : Frame
+  frame = patch.frame
+
+  abbrev options : Resolved
+  options = patch.options
+
   abbrev boundary : ResultLoop
   boundary = loop_of (whole_area surface options) (whole_rows surface frame options)
 
   boundary_is : boundary ∷ [] ≡ whole_loop s ∷ []
   unfolding whole_loop whole_rows
-  boundary_is = λ i. loop_of (whole_area (surface_is i) (options_are i)) (map (placed_corner (surface_is i) (frame_is i)) (whole_corners (surface_is i) (options_are i))) ∷ []
+  boundary_is =
+      λ i. let p = patch_is i in
+          loop_of (whole_area p.surface p.options) (map (placed_corner p.surface p.frame) (whole_corners p.surface p.options)) ∷ []
 
   rows_many : length (whole_rows surface frame options) ≡ length (whole_corners surface options)
   unfolding whole_rows
   rows_many = length-map (whole_corners surface options) (placed_corner surface frame)
 
-  pub whole_filled : (c₀ c : List ℕ) (a₀ a t₀ t : List Float) (n : ℕ) (area : Float) → n ≡ length (whole_corners surface options) → area ≡ area_within (length (rows t₀)) surface options
+  pub whole_filled : (c₀ c : List ℕ) (a₀ a : List Float) (t₀ t : List Held) (n : ℕ) (area : Float) → n ≡ length (whole_corners surface options) → area ≡ area_within (length (rows t₀)) surface options
       → c ≡ set c₀ 0 n → a ≡ set a₀ 0 area → rows t ≡ placed 0 (whole_rows surface frame options) (rows t₀)
-      → length c₀ ≡ 16 → length a₀ ≡ 16 → length t₀ ≡ 7680 → FillsTo passes s (Ok (record { path = Whole; loops = 1 })) c a t
+      → length c₀ ≡ 16 → length a₀ ≡ 16 → length t₀ ≡ 1536 → FillsTo passes s (Ok (record { path = Whole; loops = 1 })) c a t
   unfolding corners_of
   whole_filled c₀ c a₀ a t₀ t n area n_is area_is c_is a_is t_is c-room a-room t-room =
       let few = few-corners surface options in

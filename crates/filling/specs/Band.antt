@@ -1,9 +1,7 @@
 -- The band between two rings, closed into a table. The sentences are those of 01, "Bands", where no other place is named.
 use Rattle.std.specs.Prelude.{ℕ, ◌≤◌, ◌≡◌, Bool, cond, List, leb, Float, length, take, replicate, Result, Ok, Err}
-use Rattle.numbers.specs.declared.math.Frame.{Frame}
 use Rattle.numbers.specs.declared.math.Vec3.{Vec3}
-use Rattle.surfaces.specs.declared.options.Resolved.{Resolved}
-use Rattle.surfaces.specs.declared.surface.Surface.{Surface}
+use Rattle.surfaces.specs.declared.patch.Patch.{Patch}
 use Rattle.surfaces.specs.Domains.{u_period}
 use Rattle.lists.specs.Pieces.{pieces}
 use Rattle.lists.specs.Placed.{placed}
@@ -11,6 +9,7 @@ use Rattle.loop_records.specs.declared.LoopRecord.{LoopRecord}
 use Rattle.loop_records.specs.Record.{no_loop}
 use Rattle.tables.specs.Corners.{Corners}
 use Rattle.tables.specs.Rows.{rows}
+use Rattle.tables.specs.declared.corners.Corner.{Corner as Held}
 use Rattle.bands.specs.Given.{Given}
 use Rattle.bands.specs.Strip.{Setting}
 use Rattle.bands.specs.Band.{strip_of, outer, holes}
@@ -26,27 +25,29 @@ use Rattle.loop_records.specs.Loops.{records_from}
 use Rattle.call.specs.Later.{wraps_at}
 use Rattle.measuring.specs.LastWhere.{last_where}
 
+-- the surface of a face record, with its frame and its tolerances
+abbrev pub patch_in : List ℕ → Patch
+patch_in s = record { surface = surface_in s; frame = frame_in s; options = options_in s }
+
 module _ (S : Setting Vec3) (given : Given Vec3) where
   -- how many corners the band has and its area; or how many points its strip has "before repeats are dropped", over 1,024 (01, refusal 12)
   unfoldable pub band_closing : Result Closed TooMany
   band_closing = cond (leb (length (strip_of S given)) version1.strip) (Ok (closed_as (outer S given))) (Err (no_room (length (strip_of S given))))
 
   -- where it closes, the band is the front of the table t; hs are the holes as the strip takes them
-  pub record BandIs (r : Result Closed TooMany) (t : List Float) (hs : List (Corners Vec3)) : Type 0 where
+  pub record BandIs (r : Result Closed TooMany) (t : List Held) (hs : List (Corners Vec3)) : Type 0 where
     pub answer : r ≡ band_closing
     pub band : length (strip_of S given) ≤ version1.strip → take (length (outer S given)) (rows t) ≡ outer S given
     pub holes_are : hs ≡ holes S given
 
 -- What is taken from the face record s, of which two loops wrap: "Rings are taken last wrapping loop first", that of number a before that of number b.
-pub record BandFace (s : List ℕ) (corners : List Float) (given : List ℕ) (loops : List LoopRecord) (frame : Frame) (surface : Surface) (options : Resolved) (sense : Bool) (a b : ℕ) : Type 0 where
+pub record BandFace (s : List ℕ) (corners : List Held) (given : List ℕ) (loops : List LoopRecord) (patch : Patch) (sense : Bool) (a b : ℕ) : Type 0 where
   pub accepted : Accepted version1 s
   pub two : wrapping s ≡ 2
   pub given_is : given ≡ counts s
   pub corners_are : rows corners ≡ corners_in s
-  pub loops_are : loops ≡ placed 0 (records_from (u_period surface) 0 (pieces given (rows corners))) (replicate 16 no_loop)
-  pub frame_is : frame ≡ frame_in s
-  pub surface_is : surface ≡ surface_in s
-  pub options_are : options ≡ options_in s
+  pub loops_are : loops ≡ placed 0 (records_from (u_period patch.surface) 0 (pieces given (rows corners))) (replicate 16 no_loop)
+  pub patch_is : patch ≡ patch_in s
   pub sense_is : sense ≡ sense_in s
   pub first_is : last_where (length (wraps_in s)) (wraps_at (wraps_in s)) ≡ at a
   pub later_is : first_where (length (wraps_in s)) (wraps_at (wraps_in s)) ≡ at b

@@ -3,13 +3,14 @@ use Rattle.std.specs.Prelude.{ℕ, ◌≡◌, List, ℤ, Float, length}
 use Rattle.numbers.specs.declared.math.Vec3.{Vec3}
 use Rattle.tables.specs.Corners.{Corners}
 use Rattle.tables.specs.Rows.{rows}
+use Rattle.tables.specs.declared.corners.Corner.{Corner as Held}
 use Rattle.records.specs.Face as Face
 use Rattle.records.specs.Face.{corners_in}
 use Rattle.records.specs.Refusals.{Verdict, passes, refuse_at}
 use Rattle.call.specs.Later.{open_among, one_among, many_among, open_kind}
 
 -- the face record s, as it is read
-pub record ReadAs (s : List ℕ) (head : List Float) (counts : List ℕ) (t : List Float) : Type 0 where
+pub record ReadAs (s : List ℕ) (head : List Float) (counts : List ℕ) (t : List Held) : Type 0 where
   pub head_is : head ≡ Face.head s
   pub counts_are : counts ≡ Face.counts s
   pub corners_are : rows t ≡ corners_in s

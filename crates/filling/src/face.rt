@@ -14,9 +14,13 @@ ghost use Rattle.call.specs.Later.{ring_conditions, strip_conditions, later_cond
 ghost use Rattle.loop_records.specs.Loops.{records_from};
 ghost use Rattle.filling.specs.Filled.{FillsTo};
 ghost use Rattle.filling.specs.Stages.{ReadAs};
+ghost use Rattle.measuring.specs.Head.{frame_at, options_at};
+ghost use Rattle.records.specs.Face.{segments};
 
 use super::ring_refusals::check_rings;
 use super::{fill_band, fill_closed, fill_whole};
+use closed_region::boxes::Bounds;
+use closed_region::outer::empty_box;
 use loop_records::measure::measure_loops;
 use loop_records::{LoopRecord, areas_of, wraps_of};
 use measuring::head::{frame_of, options_of, surface_of};
@@ -26,7 +30,9 @@ use records::limits::version1;
 use records::read::{kind, read_corners, read_counts, read_head, segments, sense};
 use records::refusal::Refusal;
 use results::Path;
+use surfaces::patch::Patch;
 use surfaces::surface::Surface;
+use tables::corners::{Corner, ORIGIN};
 use tables::slices::at;
 
 // What a face was filled as.
@@ -37,19 +43,30 @@ pub struct FilledFace {
     pub loops: usize,
 }
 
+// The surface with its frame and its tolerances.
+fn patch_of(face: &[u8], head: &[f64], surface: Surface) -> Patch
+    ensures { result ≡ record { surface = surface; frame = frame_at head.now; options = options_at head.now (segments face.now) } }
+{
+    Patch {
+        surface,
+        frame: frame_of(head),
+        options: options_of(head, segments(face)),
+    }
+}
+
 // The path: whole where there are no loops, closed where none wraps, else wrapped. The closed one does
 // not need the frame, which takes roots.
 fn fill_path(
     face: &[u8],
     head: &[f64],
     given: &[usize],
-    corners: &mut [f64],
+    corners: &mut [Corner],
     loops: &[LoopRecord],
     wraps: &[i32],
     measured: &mut [f64],
-    boxes: &mut [f64; 64],
+    boxes: &mut [Bounds; 16],
     surface: Surface,
-    t: &mut [f64; 7680],
+    t: &mut [Corner; 1536],
     counts: &mut [usize; 16],
     areas: &mut [f64; 16],
 ) -> Result<FilledFace, Refusal>
@@ -59,9 +76,8 @@ fn fill_path(
         → surface ≡ surface_in face.now → verdict ring_conditions face.now ≡ passes
         → FillsTo (verdict (strip_conditions version1) face.now) face.now result counts.new areas.new t.new }
 {
-    let options = options_of(head, segments(face));
     if given.len() == 0 {
-        return Ok(fill_whole(surface, frame_of(head), options, t, counts, areas));
+        return Ok(fill_whole(patch_of(face, head, surface), t, counts, areas));
     }
     if wrapping_count(wraps) == 0 {
         return Ok(fill_closed(corners, given, measured, boxes, surface, t, counts, areas));
@@ -72,9 +88,7 @@ fn fill_path(
         loops,
         wraps,
         measured,
-        frame_of(head),
-        surface,
-        options,
+        patch_of(face, head, surface),
         sense(face) == 1,
         t,
         counts,
@@ -86,7 +100,7 @@ fn fill_path(
 // tested, and its path taken, which may refuse by 12.
 fn fill_record(
     face: &[u8],
-    t: &mut [f64; 7680],
+    t: &mut [Corner; 1536],
     counts: &mut [usize; 16],
     areas: &mut [f64; 16],
 ) -> Result<FilledFace, Refusal>
@@ -94,11 +108,11 @@ fn fill_record(
 {
     let mut head = [0.0; 13];
     let mut given = [0; 16];
-    let mut corners = [0.0; 2560];
-    let mut boxes = [0.0; 64];
+    let mut corners = [ORIGIN; 512];
+    let mut boxes = [empty_box(); 16];
     read_head(face, &mut head);
     let l = read_counts(face, &mut given).unwrap_or(0);
-    let e = 5 * read_corners(face, &mut corners).unwrap_or(0);
+    let e = read_corners(face, &mut corners).unwrap_or(0);
     let surface = surface_of(kind(face), at(&head, 9), at(&head, 10));
     let loops = measure_loops(&corners[..e], &given[..l], surface.u_period());
     let wraps = wraps_of(loops);
@@ -125,7 +139,7 @@ fn fill_record(
 // behind the result is free.
 pub fn fill_face(
     face: &[u8],
-    t: &mut [f64; 7680],
+    t: &mut [Corner; 1536],
     counts: &mut [usize; 16],
     areas: &mut [f64; 16],
 ) -> Result<FilledFace, Refusal>

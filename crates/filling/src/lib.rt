@@ -11,19 +11,20 @@ ghost use Rattle.loop_records.specs.Record.{no_loop};
 ghost use Rattle.records.specs.Accepted.{Accepted};
 ghost use Rattle.records.specs.Face.{loops as loops_of, counts as counts_of, corners_in};
 ghost use Rattle.records.specs.Refusals.{passes, verdict};
-ghost use Rattle.call.specs.Face.{surface_in, frame_in, options_in, sense_in, wrapping, setting_in, given_in, wraps_in};
+ghost use Rattle.call.specs.Face.{surface_in, sense_in, wrapping, setting_in, given_in, wraps_in};
 ghost use Rattle.loop_records.specs.Loops.{records_from};
 ghost use Rattle.filling.specs.Filled.{FillsTo};
 ghost use Rattle.call.specs.Later.{strip_conditions};
 ghost use Rattle.bands.specs.Given.{falls};
-ghost use Rattle.bands.specs.Columns.{setting_of};
+ghost use Rattle.bands.specs.Columns.{setting_on};
 ghost use Rattle.laying.specs.Held.{given_in as held_in};
 ghost use Rattle.holes.specs.Others.{others};
 ghost use Rattle.records.specs.Limits.{version1};
 ghost use Rattle.call.specs.Paths.{signed_area};
-ghost use Rattle.filling.specs.Band.{BandIs, BandFace};
+ghost use Rattle.filling.specs.Band.{patch_in, BandIs, BandFace};
 
 use closed_face::face::closed_face;
+use closed_region::boxes::Bounds;
 use face::FilledFace;
 use full_domain::boundary::full_domain_count;
 use full_domain::table::full_domain_loop;
@@ -35,15 +36,14 @@ use laying::start::take_start;
 use loop_records::LoopRecord;
 use loop_records::ring::ring_of;
 use measuring::refusals::{first_wrapping, last_wrapping};
-use numbers::math::Frame;
 use records::refusal::Refusal;
 use results::Path;
 use seam::gap::Span;
 use strip::closing::{Closed, TooMany};
-use surfaces::options::Resolved;
+use surfaces::patch::Patch;
 use surfaces::surface::Surface;
 use tables::copies::copy_rows;
-use tables::slices::{put, shorter};
+use tables::corners::{Corner, ORIGIN};
 use wrapped_region::order::goes_with;
 use wrapped_region::ordered::close_ordered;
 
@@ -52,19 +52,16 @@ pub mod ring_refusals;
 
 // The whole path: a sphere or a torus that no loop trims.
 fn fill_whole(
-    surface: Surface,
-    frame: Frame,
-    options: Resolved,
-    t: &mut [f64; 7680],
+    patch: Patch,
+    t: &mut [Corner; 1536],
     counts: &mut [usize; 16],
     areas: &mut [f64; 16],
 ) -> FilledFace
-    ensures { (s : List ℕ) → Accepted version1 s → loops_of s ≡ 0 → surface ≡ surface_in s → frame ≡ frame_in s → options ≡ options_in s
+    ensures { (s : List ℕ) → Accepted version1 s → loops_of s ≡ 0 → patch ≡ patch_in s
         → FillsTo passes s (Ok result) counts.new areas.new t.new }
 {
-    counts[0] = full_domain_count(surface, options);
-    let area = full_domain_loop(surface, frame, options, t);
-    put(areas, 0, area);
+    counts[0] = full_domain_count(patch.surface, patch.options);
+    areas[0] = full_domain_loop(patch.surface, patch.frame, patch.options, t);
     FilledFace {
         path: Path::Whole,
         loops: 1,
@@ -73,12 +70,12 @@ fn fill_whole(
 
 // The closed path: a face of which no loop wraps.
 fn fill_closed(
-    corners: &mut [f64],
+    corners: &mut [Corner],
     given: &[usize],
     measured: &mut [f64],
-    boxes: &mut [f64; 64],
+    boxes: &mut [Bounds; 16],
     surface: Surface,
-    t: &mut [f64; 7680],
+    t: &mut [Corner; 1536],
     counts: &mut [usize; 16],
     areas: &mut [f64; 16],
 ) -> FilledFace
@@ -111,82 +108,68 @@ fn falls(travel: i32) -> bool
 }
 
 // The band between two rings into the front of t, and the holes onto its strip where they stand. The
-// arrays have places for what 16 holes cover, for the columns of both rings, and for a wall of 512
-// points: a strip of more than 1,024 points is too long.
+// arrays have places for what 16 holes cover, for the u of both rings, and for a wall of 512 points:
+// a strip of more than 1,024 points is too long.
 fn band_between(
-    first: &mut [f64],
-    later: &mut [f64],
-    holes: &mut [f64],
+    first: &mut [Corner],
+    later: &mut [Corner],
+    holes: &mut [Corner],
     counts: &[usize],
     first_falls: bool,
     later_falls: bool,
-    frame: Frame,
-    surface: Surface,
-    options: Resolved,
+    patch: Patch,
     period: f64,
     sense: bool,
-    t: &mut [f64; 7680],
+    t: &mut [Corner; 1536],
 ) -> Result<Closed, TooMany>
     ensures { length counts.now ≤ version1.loops → length (rows first.old) + length (rows later.old) ≤ version1.points
-        → BandIs (setting_of frame surface options period sense) (held_in first.old later.old first_falls later_falls (pieces counts.now (rows holes.old)))
+        → BandIs (setting_on patch period sense) (held_in first.old later.old first_falls later_falls (pieces counts.now (rows holes.old)))
         result t.new (pieces counts.now (rows holes.new)) }
 {
     let mut spans = [Span {
         low: 0.0,
         high: 0.0,
     }; 16];
-    let mut u = [0.0; 512];
-    let mut v = [0.0; 512];
-    let mut x = [0.0; 512];
-    let mut y = [0.0; 512];
-    let mut z = [0.0; 512];
-    let mut wall = [0.0; 2560];
+    let mut trial = [0.0; 512];
+    let mut heights = [0.0; 512];
+    let mut wall = [ORIGIN; 512];
     lay_rings(first, later, first_falls, later_falls, period);
     reseam(first, later, holes, counts, &mut spans, period);
-    take_start(first, later, &mut u, &mut v, &mut x, &mut y, &mut z, period);
+    take_start(first, later, &mut trial, period);
     let with1 = goes_with(sense, first_falls);
     let with2 = goes_with(sense, later_falls);
     close_ordered(
-        first, later, with1, with2, frame, surface, options, period, &mut wall, t,
+        first, later, with1, with2, patch, period, &mut heights, &mut wall, t,
     )
-}
-
-// How many reals that many rows are, at most the 2,560 of a ring.
-fn ring_reals(rows: usize) -> usize
-    ensures { result ≡ 5 * min rows version1.points }
-{
-    5 * shorter(rows, 512)
 }
 
 // The band of a face whose rings are its loops of number a and b, into the front of t; the holes as
 // its strip takes them, one behind the other, into the front of `holes`.
 fn band_of(
-    corners: &[f64],
+    corners: &[Corner],
     given: &[usize],
     loops: &[LoopRecord],
     a: usize,
     b: usize,
-    frame: Frame,
-    surface: Surface,
-    options: Resolved,
+    patch: Patch,
     sense: bool,
-    holes: &mut [f64],
-    t: &mut [f64; 7680],
+    holes: &mut [Corner],
+    t: &mut [Corner; 1536],
 ) -> Result<Closed, TooMany>
-    ensures { (s : List ℕ) → BandFace s corners.now given.now loops.now frame surface options sense a b → version1.points ≤ length (rows holes.old)
+    ensures { (s : List ℕ) → BandFace s corners.now given.now loops.now patch sense a b → version1.points ≤ length (rows holes.old)
         → BandIs (setting_in s) (given_in s) result t.new (pieces (others a b given.now) (rows holes.new)) }
 {
-    let mut first = [0.0; 2560];
-    let mut later = [0.0; 2560];
+    let mut first = [ORIGIN; 512];
+    let mut later = [ORIGIN; 512];
     let mut counts = [0; 16];
     let one = ring_of(&mut first, corners, loops, a);
     let other = ring_of(&mut later, corners, loops, b);
-    let m = ring_reals(one.count);
-    let n = ring_reals(other.count);
+    let m = one.count.min(512);
+    let n = other.count.min(512);
     pick_holes(holes, 0, corners, given, a, b);
     pick(&mut counts, 0, given, a, b);
-    let k = shorter(count_holes(given.len(), a, b), 16);
-    let period = surface.u_period().unwrap_or(0.0);
+    let k = count_holes(given.len(), a, b).min(16);
+    let period = patch.surface.u_period().unwrap_or(0.0);
     band_between(
         &mut first[..m],
         &mut later[..n],
@@ -194,40 +177,37 @@ fn band_of(
         &counts[..k],
         falls(one.travel),
         falls(other.travel),
-        frame,
-        surface,
-        options,
+        patch,
         period,
         sense,
         t,
     )
 }
 
-// The wrapped path: a face of which two loops wrap. The result has one loop fewer, the two rings being one of its loops.
+// The wrapped path: a face of which two loops wrap. The result has one loop fewer, the two rings being
+// one of its loops.
 fn fill_band(
-    corners: &[f64],
+    corners: &[Corner],
     given: &[usize],
     loops: &[LoopRecord],
     wraps: &[i32],
     measured: &[f64],
-    frame: Frame,
-    surface: Surface,
-    options: Resolved,
+    patch: Patch,
     sense: bool,
-    t: &mut [f64; 7680],
+    t: &mut [Corner; 1536],
     counts: &mut [usize; 16],
     areas: &mut [f64; 16],
 ) -> Result<FilledFace, Refusal>
     ensures { (s : List ℕ) → Accepted version1 s → wrapping s ≡ 2 → given.now ≡ counts_of s → rows corners.now ≡ corners_in s
-        → loops.now ≡ placed 0 (records_from (u_period surface) 0 (pieces given.now (rows corners.now))) (replicate 16 no_loop)
-        → wraps.now ≡ wraps_in s → measured.now ≡ map signed_area (pieces given.now (rows corners.now)) → surface ≡ surface_in s → frame ≡ frame_in s → options ≡ options_in s → sense ≡ sense_in s
+        → loops.now ≡ placed 0 (records_from (u_period patch.surface) 0 (pieces given.now (rows corners.now))) (replicate 16 no_loop)
+        → wraps.now ≡ wraps_in s → measured.now ≡ map signed_area (pieces given.now (rows corners.now)) → patch ≡ patch_in s → sense ≡ sense_in s
         → FillsTo (verdict (strip_conditions version1) s) s result counts.new areas.new t.new }
 {
-    let mut holes = [0.0; 2560];
+    let mut holes = [ORIGIN; 512];
     let a = last_wrapping(wraps).unwrap_or(0);
     let b = first_wrapping(wraps).unwrap_or(0);
     let closing = band_of(
-        corners, given, loops, a, b, frame, surface, options, sense, &mut holes, t,
+        corners, given, loops, a, b, patch, sense, &mut holes, t,
     );
     match closing {
         Ok(closed) => {

@@ -8,9 +8,10 @@ ghost use Rattle.filling.specs.Stages.{rings_verdict};
 
 use measuring::refusals::{many_rings, one_ring, open_ring, open_surface};
 use records::refusal::Refusal;
+use tables::corners::Corner;
 
 #[tactic(auto, using(crate::proofs::Refused::as_many_pieces), unfolding(crate::specs::Stages::rings_verdict))]
-pub fn check_rings(kind: u8, t: &[f64], counts: &[usize], wraps: &[i32]) -> Result<(), Refusal>
+pub fn check_rings(kind: u8, t: &[Corner], counts: &[usize], wraps: &[i32]) -> Result<(), Refusal>
     ensures { verdict_of result ≡ rings_verdict kind (pieces counts.now (rows t.now)) wraps.now }
 {
     if let Some(k) = open_ring(t, counts, wraps) {

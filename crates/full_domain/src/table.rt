@@ -11,10 +11,9 @@ ghost use Rattle.full_domain.specs.Table.{placed_corner, whole_rows, RowsReach};
 
 use super::boundary::{is_whole, position_at, range_of, side_count, write_rungs};
 use loops::rows::signed_area;
-use numbers::math::{Frame, Vec2};
-use surfaces::options::Resolved;
+use numbers::math::Vec2;
+use surfaces::patch::Patch;
 use surfaces::steps::Axis;
-use surfaces::surface::Surface;
 use tables::corners::{Corner, put_corner};
 use tables::slices::part;
 
@@ -39,22 +38,21 @@ fn along(axis: Axis, fixed: f64, x: f64) -> Vec2
     }
 }
 
-fn corner_along(surface: Surface, frame: Frame, axis: Axis, fixed: f64, x: f64) -> Corner
-    ensures { corner_of result ≡ placed_corner surface frame (corner_along axis fixed x) }
+fn corner_along(patch: Patch, axis: Axis, fixed: f64, x: f64) -> Corner
+    ensures { corner_of result ≡ placed_corner patch.surface patch.frame (corner_along axis fixed x) }
 {
     let c = along(axis, fixed, x);
     Corner {
         u: c.u,
         v: c.v,
-        at: position_at(surface, frame, c),
+        at: position_at(patch, c),
     }
 }
 
 // One side from row `start` on, as far as there is room, along its rungs forward or backward. No boundary
 // has more than 1,024 corners, so places can be counted.
 fn put_side(
-    surface: Surface,
-    frame: Frame,
+    patch: Patch,
     axis: Axis,
     fixed: f64,
     back: bool,
@@ -63,70 +61,57 @@ fn put_side(
     start: usize,
 )
     requires { start + length rungs.now ≤ 1025 }
-    ensures { rows t.new ≡ sets (rows t.old) start (map (placed_corner surface frame) (side axis fixed back rungs.now)) }
+    ensures { rows t.new ≡ sets (rows t.old) start (map (placed_corner patch.surface patch.frame) (side axis fixed back rungs.now)) }
 {
     for i in 0..rungs.len().saturating_sub(1) {
         let x = rung_of(rungs, back, i);
-        put_corner(t, start + i, corner_along(surface, frame, axis, fixed, x));
+        put_corner(t, start + i, corner_along(patch, axis, fixed, x));
     }
 }
 
 // The four sides, which are walked round the rectangle.
-fn put_sides(surface: Surface, frame: Frame, us: &[f64], vs: &[f64], t: &mut [Corner])
+fn put_sides(patch: Patch, us: &[f64], vs: &[f64], t: &mut [Corner])
     requires { ((0 < length us.now) × (length us.now ≤ 257)) × ((0 < length vs.now) × (length vs.now ≤ 257)) }
-    ensures { rows t.new ≡ sets (rows t.old) 0 (map (placed_corner surface frame) (sides us.now vs.now (domain_of surface).u (domain_of surface).v)) }
+    ensures { rows t.new ≡ sets (rows t.old) 0 (map (placed_corner patch.surface patch.frame) (sides us.now vs.now (domain_of patch.surface).u (domain_of patch.surface).v)) }
 {
-    let u = range_of(surface, Axis::U);
-    let v = range_of(surface, Axis::V);
+    let u = range_of(patch.surface, Axis::U);
+    let v = range_of(patch.surface, Axis::V);
     let su = us.len() - 1;
     let sv = vs.len() - 1;
-    put_side(surface, frame, Axis::U, v.lo, false, us, t, 0);
-    put_side(surface, frame, Axis::V, u.hi, false, vs, t, su);
-    put_side(surface, frame, Axis::U, v.hi, true, us, t, su + sv);
-    put_side(surface, frame, Axis::V, u.lo, true, vs, t, su + sv + su);
+    put_side(patch, Axis::U, v.lo, false, us, t, 0);
+    put_side(patch, Axis::V, u.hi, false, vs, t, su);
+    put_side(patch, Axis::U, v.hi, true, us, t, su + sv);
+    put_side(patch, Axis::V, u.lo, true, vs, t, su + sv + su);
 }
 
 // The boundary, with the rungs of both directions in arrays of their own.
-fn put_boundary(
-    surface: Surface,
-    frame: Frame,
-    options: Resolved,
-    su: usize,
-    sv: usize,
-    t: &mut [Corner],
-)
-    requires { (su ≡ length (rungs_of U surface options) - 1) × (sv ≡ length (rungs_of «V» surface options) - 1) }
-    ensures { rows t.new ≡ sets (rows t.old) 0 (map (placed_corner surface frame) (sides_of surface options)) }
+fn put_boundary(patch: Patch, su: usize, sv: usize, t: &mut [Corner])
+    requires { (su ≡ length (rungs_of U patch.surface patch.options) - 1) × (sv ≡ length (rungs_of «V» patch.surface patch.options) - 1) }
+    ensures { rows t.new ≡ sets (rows t.old) 0 (map (placed_corner patch.surface patch.frame) (sides_of patch.surface patch.options)) }
 {
     let mut us = [0.0; 257];
     let mut vs = [0.0; 257];
-    write_rungs(surface, Axis::U, options, &mut us);
-    write_rungs(surface, Axis::V, options, &mut vs);
-    put_sides(
-        surface,
-        frame,
-        part(&us, 0, su + 1),
-        part(&vs, 0, sv + 1),
-        t,
-    );
+    write_rungs(patch, Axis::U, &mut us);
+    write_rungs(patch, Axis::V, &mut vs);
+    put_sides(patch, part(&us, 0, su + 1), part(&vs, 0, sv + 1), t);
 }
 
 // Writes the boundary into the first rows, and answers its area. Where there is no room for all of it
 // nothing is written and 0.0 answered, as for the kinds that have no whole.
-pub fn full_domain_loop(surface: Surface, frame: Frame, options: Resolved, t: &mut [Corner]) -> f64
-    ensures value { result ≡ area_within (length (rows t.old)) surface options }
-    ensures t_after { rows t.new ≡ placed 0 (whole_rows surface frame options) (rows t.old) }
-    ensures rows_reach { RowsReach surface options (length (rows t.old)) (rows t.new) }
+pub fn full_domain_loop(patch: Patch, t: &mut [Corner]) -> f64
+    ensures value { result ≡ area_within (length (rows t.old)) patch.surface patch.options }
+    ensures t_after { rows t.new ≡ placed 0 (whole_rows patch.surface patch.frame patch.options) (rows t.old) }
+    ensures rows_reach { RowsReach patch.surface patch.options (length (rows t.old)) (rows t.new) }
 {
-    if !is_whole(surface) {
+    if !is_whole(patch.surface) {
         return 0.0;
     }
-    let su = side_count(surface, Axis::U, options);
-    let sv = side_count(surface, Axis::V, options);
+    let su = side_count(patch, Axis::U);
+    let sv = side_count(patch, Axis::V);
     let n = 2 * (su + sv);
     if t.len() < n {
         return 0.0;
     }
-    put_boundary(surface, frame, options, su, sv, t);
+    put_boundary(patch, su, sv, t);
     signed_area(&t[..n])
 }

@@ -1,47 +1,19 @@
 -- The reals before the points, as the code reads them, and that those of a face record are its frame, its surface and its tolerances.
 use Prim.Native.Nat.{ℕ, ◌+◌, ◌<◌}
-use mathlib.Core.Path.{◌≡◌, sym, ap, ◌∙◌}
+use mathlib.Core.Path.{◌≡◌, ap, ◌∙◌}
 use mathlib.Core.List.{List}
 use native.Mathlib.Omega.{arith}
-use borrow.Author.Tests.{eq-eqb, ne_eqb}
 use lib.Ieee.{Float, nan}
 use lib.ListN.{get_or}
 use Rattle.numbers.specs.Frames.{frame_of}
 use Rattle.numbers.specs.declared.math.Vec3.{Vec3}
 use Rattle.numbers.specs.declared.math.Frame.{Frame}
 use Rattle.surfaces.specs.declared.options.Resolved.{Resolved}
-use Rattle.surfaces.specs.declared.surface.Surface.TheVariants.{Plane, Cylinder, Cone, Sphere, Torus}
 use Rattle.records.specs.Bytes.{real_at}
 use Rattle.records.specs.Face.{head_reals, kind, segments, head, real_place, real_of}
 use Rattle.records.proofs.Rows.{get_or-row_at}
 use Rattle.call.specs.Face.{surface_of, frame_in, surface_in, options_in}
 use Rattle.measuring.specs.Head.{vector_at, frame_at, options_at}
-
--- ---- the kinds
-
-module _ (k : ℕ) (a b : Float) where
-  pub is_plane : k ≡ 0 → Plane ≡ surface_of k a b
-  unfolding surface_of
-  is_plane e = sym (rw (eq-eqb k 0 e))
-
-  module _ (not_plane : k ≡ 0 → ⊥) where
-    pub is_cylinder : k ≡ 1 → Cylinder a ≡ surface_of k a b
-    unfolding surface_of
-    is_cylinder e = sym (rw (ne_eqb k 0 not_plane, eq-eqb k 1 e))
-
-    module _ (not_cylinder : k ≡ 1 → ⊥) where
-      pub is_cone : k ≡ 2 → Cone a b ≡ surface_of k a b
-      unfolding surface_of
-      is_cone e = sym (rw (ne_eqb k 0 not_plane, ne_eqb k 1 not_cylinder, eq-eqb k 2 e))
-
-      module _ (not_cone : k ≡ 2 → ⊥) where
-        pub is_sphere : k ≡ 3 → Sphere a ≡ surface_of k a b
-        unfolding surface_of
-        is_sphere e = sym (rw (ne_eqb k 0 not_plane, ne_eqb k 1 not_cylinder, ne_eqb k 2 not_cone, eq-eqb k 3 e))
-
-        pub is_torus : (k ≡ 3 → ⊥) → Torus a b ≡ surface_of k a b
-        unfolding surface_of
-        is_torus not_sphere = sym (rw (ne_eqb k 0 not_plane, ne_eqb k 1 not_cylinder, ne_eqb k 2 not_cone, ne_eqb k 3 not_sphere))
 
 -- ---- as the code reads them
 

@@ -9,6 +9,7 @@ use lib.Ieee.{Float}
 use lib.ListN.{length, take, drop}
 use lib.Seq.{take_at}
 use Rattle.tables.specs.Rows.{rows}
+use Rattle.tables.specs.declared.corners.Corner.{Corner as Held}
 use Rattle.tables.proofs.Rows.{rows_take}
 use Rattle.std.specs.Prelude.{Option, Some}
 use Rattle.records.specs.declared.limits.Limits.{Limits}
@@ -43,8 +44,8 @@ module _ {L : Limits} (s : List ℕ) (a : Accepted L s) where
     h.answer ∙ rw (counts_fit_lem (length d) room, length-counts s),
   )
 
-  pub corners_read_back : (t t' : List Float) (r : Option ℕ) → CornersRead s t t' r → points s ≤ length (rows t)
-      → (rows (take (5 * points s) t') ≡ corners_in s) × (r ≡ Some (points s))
+  pub corners_read_back : (t t' : List Held) (r : Option ℕ) → CornersRead s t t' r → points s ≤ length (rows t)
+      → (rows (take (points s) t') ≡ corners_in s) × (r ≡ Some (points s))
   corners_read_back t t' r h room = (
     rows_take (points s) t' ∙ front_of _ (corners_in s) (rows t) (rows t') (points s) (corners_fit (length (rows t)) room) (length-corners s) h.is,
     h.answer ∙ rw (corners_fit (length (rows t)) room, length-corners s),

@@ -11,27 +11,22 @@ use surfaces::surface::Surface;
 use tables::slices::at;
 
 // The kind, with its size and its second one.
+#[tactic(auto, unfolding(call::specs::Face::surface_of))]
 pub fn surface_of(kind: u8, a: f64, b: f64) -> Surface
     ensures { result ≡ surface_of kind a b }
 {
-    if kind == 0 {
-        return Surface::Plane;
-    }
-    if kind == 1 {
-        return Surface::Cylinder { radius: a };
-    }
-    if kind == 2 {
-        return Surface::Cone {
+    match kind {
+        0 => Surface::Plane,
+        1 => Surface::Cylinder { radius: a },
+        2 => Surface::Cone {
             radius: a,
             half_angle: b,
-        };
-    }
-    if kind == 3 {
-        return Surface::Sphere { radius: a };
-    }
-    Surface::Torus {
-        major_radius: a,
-        minor_radius: b,
+        },
+        3 => Surface::Sphere { radius: a },
+        _ => Surface::Torus {
+            major_radius: a,
+            minor_radius: b,
+        },
     }
 }
 

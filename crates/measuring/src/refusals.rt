@@ -10,7 +10,7 @@ ghost use Rattle.records.specs.Refusals.{first_where};
 ghost use Rattle.call.specs.Later.{wraps_at, open_at, open_among, wrapping_of, one_among, many_among, open_kind};
 ghost use Rattle.measuring.specs.LastWhere.{last_where};
 
-use tables::corners::{corner_at, count};
+use tables::corners::Corner;
 use tables::pieces::loop_of;
 
 // Whether loop k wraps; past the last one none does.
@@ -24,22 +24,17 @@ fn wraps_at(wraps: &[i32], k: usize) -> bool
 }
 
 // Whether a loop ends where it begins.
-fn ends_meet(t: &[f64]) -> bool
+fn ends_meet(t: &[Corner]) -> bool
     ensures { result ≡ ends_meet same (positions (rows t.now)) }
 {
-    let n = count(t);
-    if n == 0 {
+    if t.len() == 0 {
         return true;
     }
-    let last = corner_at(t, n - 1);
-    let first = corner_at(t, 0);
-    let end = last.at;
-    let begin = first.at;
-    end.same(begin)
+    t[t.len() - 1].at.same(t[0].at)
 }
 
 // Whether loop k wraps and is open.
-fn open_at(t: &[f64], counts: &[usize], wraps: &[i32], k: usize) -> bool
+fn open_at(t: &[Corner], counts: &[usize], wraps: &[i32], k: usize) -> bool
     ensures { result ≡ open_at (pieces counts.now (rows t.now)) wraps.now k }
 {
     if wraps_at(wraps, k) {
@@ -49,7 +44,7 @@ fn open_at(t: &[f64], counts: &[usize], wraps: &[i32], k: usize) -> bool
 }
 
 // 8
-pub fn open_ring(t: &[f64], counts: &[usize], wraps: &[i32]) -> Option<usize>
+pub fn open_ring(t: &[Corner], counts: &[usize], wraps: &[i32]) -> Option<usize>
     ensures { place_of result ≡ open_among (pieces counts.now (rows t.now)) wraps.now }
 {
     for k in 0..counts.len() {

@@ -122,6 +122,3 @@ module _ (spans₀ : List Span) where
 
       before : spans ≡ take (i - 1) spans₀ ++ (get_or spans₀ (i - 1) (span nan nan) ∷ sorted (drop (suc (i - 1)) spans₀))
       before = let e : i ≡ i - 1 + 1 = omega arith in s.is ∙ ap (λ (n : ℕ). take n spans₀ ++ sorted (drop n spans₀)) e ∙ next (i - 1) here
-
-  pub sorting_end : (spans : List Span) (i : ℕ) → Sorting spans i → i ≤ 0 → spans ≡ sorted spans₀
-  sorting_end spans i s h = let none : i ≡ 0 = omega arith in s.is ∙ ap (λ (n : ℕ). take n spans₀ ++ sorted (drop n spans₀)) none

@@ -5,15 +5,15 @@ use Rattle.lists.specs.Placed.{placed}
 use Rattle.loops.specs.Area.{area_of}
 use Rattle.loops.specs.Repeats.{drop_successive, drop_repeats, keep}
 use Rattle.tables.specs.Corners.{Corner, Corners, us, vs}
-use Rattle.tables.specs.Rows.{rows}
+use Rattle.tables.specs.declared.corners.Corner.{Corner as Held}
 use Rattle.bands.specs.Strip.{Setting, strip}
 use Rattle.strip.specs.Count.{capped}
 use Rattle.strip.specs.declared.closing.Closed.{Closed}
 use Rattle.strip.specs.declared.closing.TooMany.{TooMany}
 
--- how many corners the wall's table and the result's have room for: a strip has its wall twice
-abbrev pub room_for : List Float → List Float → ℕ
-room_for wall out = min (2 * length (rows wall)) (length (rows out))
+-- how many corners the wall's heights, its table and the result's have room for: a strip has its wall twice
+abbrev pub room_for : List Float → List Held → List Held → ℕ
+room_for heights wall out = min (2 * min (length heights) (length wall)) (length out)
 
 -- how many corners a loop has, and the area they enclose in u and v
 abbrev pub closed_as : Corners Vec3 → Closed

@@ -2,10 +2,8 @@
 use Rattle.std.specs.Prelude.{Bool, List, [], ◌∷◌, ◌++◌, map, reverse, Float, get_or}
 use Rattle.numbers.specs.Position.{same}
 use Rattle.numbers.specs.Rounded.{◌⊕◌}
-use Rattle.numbers.specs.declared.math.Frame.{Frame}
 use Rattle.numbers.specs.declared.math.Vec3.{Vec3}
-use Rattle.surfaces.specs.declared.options.Resolved.{Resolved}
-use Rattle.surfaces.specs.declared.surface.Surface.{Surface}
+use Rattle.surfaces.specs.declared.patch.Patch.{Patch}
 use Rattle.surfaces.specs.Points.{point_of}
 use Rattle.tables.specs.Corners.{Corner, Corners, move_u}
 use Rattle.tables.specs.Rows.{none}
@@ -20,18 +18,18 @@ abbrev pub at_u : Float → Corner Vec3 → Corner Vec3
 at_u u c = move_u (λ _. u) c
 
 -- the heights of a wall between two rings: none where a ring has no corner
-unfoldable pub heights_between : Surface → Resolved → Corners Vec3 → Corners Vec3 → List Float
-heights_between surface options [] upper = []
-heights_between surface options (l ∷ lower) [] = []
-heights_between surface options (l ∷ lower) (u ∷ upper) = heights_on surface options l.v u.v
+unfoldable pub heights_between : Patch → Corners Vec3 → Corners Vec3 → List Float
+heights_between patch [] upper = []
+heights_between patch (l ∷ lower) [] = []
+heights_between patch (l ∷ lower) (u ∷ upper) = heights_on patch.surface patch.options l.v u.v
 
 -- a wall's row at u and v
-abbrev pub row_on : Frame → Surface → Float → Float → Corner Vec3
-row_on frame surface u v = record { u = u; v = v; at = point_of frame surface u v }
+abbrev pub row_on : Patch → Float → Float → Corner Vec3
+row_on patch u v = record { u = u; v = v; at = point_of patch.frame patch.surface u v }
 
 -- "positions are taken at the lower ring's first u"
-abbrev pub wall_between : Frame → Surface → Resolved → Corners Vec3 → Corners Vec3 → Corners Vec3
-wall_between frame surface options lower upper = map (row_on frame surface (get_or lower 0 none).u) (heights_between surface options lower upper)
+abbrev pub wall_between : Patch → Corners Vec3 → Corners Vec3 → Corners Vec3
+wall_between patch lower upper = map (row_on patch (get_or lower 0 none).u) (heights_between patch lower upper)
 
 -- what comes behind the corner where the first wall begins: that wall, one period up, "the upper ring with u falling, the other wall"
 abbrev pub far_side : Float → Corners Vec3 → Corners Vec3 → Corners Vec3

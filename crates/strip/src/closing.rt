@@ -3,7 +3,7 @@
 ghost use Rattle.std.specs.Prelude.{◌≡◌, Bool, ◌≤◌, length};
 ghost use Rattle.lists.specs.Placed.{placed};
 ghost use Rattle.loops.specs.Repeats.{drop_successive, drop_repeats, keep};
-ghost use Rattle.bands.specs.Columns.{setting_of};
+ghost use Rattle.bands.specs.Columns.{setting_on};
 ghost use Rattle.tables.specs.Rows.{rows};
 ghost use Rattle.strip.specs.Closing.{room_for, closed_as, closing_of, closed_into};
 ghost use Rattle.strip.specs.Corners.{same_at, strip_with};
@@ -12,10 +12,8 @@ use super::corners::{first_rows, strip_corner, strip_rows};
 use super::repeats::{repeated_by, trim};
 use super::walls::{inner_between, raise_wall};
 use loops::rows::signed_area;
-use numbers::math::Frame;
-use surfaces::options::Resolved;
-use surfaces::surface::Surface;
-use tables::corners::{count, put_corner};
+use surfaces::patch::Patch;
+use tables::corners::Corner;
 use tables::slices::shorter;
 
 // How many corners are left, and the area they enclose in u and v.
@@ -35,14 +33,14 @@ pub struct TooMany {
 // The first pass over a strip of n corners: stores those that differ from the one kept before them,
 // each when the next one that stays is found, and answers how many.
 fn keep_successive(
-    lower: &[f64],
-    upper: &[f64],
-    wall: &[f64],
+    lower: &[Corner],
+    upper: &[Corner],
+    wall: &[Corner],
     period: f64,
     n: usize,
-    out: &mut [f64],
+    out: &mut [Corner],
 ) -> usize
-    requires { (n ≡ length (strip_with period (rows lower.now) (rows upper.now) (rows wall.now))) × (n ≤ length (rows out.old)) }
+    requires { (n ≡ length (strip_with period (rows lower.now) (rows upper.now) (rows wall.now))) × (n ≤ length out.old) }
     ensures value { result ≡ length (drop_successive same_at keep (strip_with period (rows lower.now) (rows upper.now) (rows wall.now))) }
     ensures out_after { rows out.new ≡ placed 0 (drop_successive same_at keep (strip_with period (rows lower.now) (rows upper.now) (rows wall.now))) (rows out.old) }
 {
@@ -54,26 +52,26 @@ fn keep_successive(
     for i in 1..n {
         let next = strip_corner(lower, upper, wall, period, i);
         if !repeated_by(last, next) {
-            put_corner(out, m, last);
+            out[m] = last;
             m += 1;
             last = next;
         }
     }
-    put_corner(out, m, last);
+    out[m] = last;
     m + 1
 }
 
 // A strip of n corners, whose wall stands, into the front of `out`, less its repeats. The repeats of
 // the first at its end stay behind those that are counted.
 fn close_rows(
-    lower: &[f64],
-    upper: &[f64],
-    wall: &[f64],
+    lower: &[Corner],
+    upper: &[Corner],
+    wall: &[Corner],
     period: f64,
     n: usize,
-    out: &mut [f64],
+    out: &mut [Corner],
 ) -> Closed
-    requires { (n ≡ length (strip_with period (rows lower.now) (rows upper.now) (rows wall.now))) × (n ≤ length (rows out.old)) }
+    requires { (n ≡ length (strip_with period (rows lower.now) (rows upper.now) (rows wall.now))) × (n ≤ length out.old) }
     ensures value { result ≡ closed_as (drop_repeats same_at (strip_with period (rows lower.now) (rows upper.now) (rows wall.now))) }
     ensures out_after { rows out.new ≡ placed 0 (drop_successive same_at keep (strip_with period (rows lower.now) (rows upper.now) (rows wall.now))) (rows out.old) }
 {
@@ -84,26 +82,25 @@ fn close_rows(
 }
 
 // The band between a lower and an upper ring in the front of `out`: how many corners it has, and
-// their area. The wall is scratch. The strip is counted first: where there is no room for it, `out`
+// their area. The wall and its heights are scratch. The strip is counted first: where there is no room for it, `out`
 // stays as it is.
 pub fn close_strip(
-    lower: &[f64],
-    upper: &[f64],
-    frame: Frame,
-    surface: Surface,
-    options: Resolved,
+    lower: &[Corner],
+    upper: &[Corner],
+    patch: Patch,
     period: f64,
-    wall: &mut [f64],
-    out: &mut [f64],
+    heights: &mut [f64],
+    wall: &mut [Corner],
+    out: &mut [Corner],
 ) -> Result<Closed, TooMany>
-    ensures value { (sense : Bool) → result ≡ closing_of (setting_of frame surface options period sense) (rows lower.now) (rows upper.now) (room_for wall.old out.old) }
-    ensures out_after { (sense : Bool) → rows out.new ≡ closed_into (setting_of frame surface options period sense) (rows lower.now) (rows upper.now) (room_for wall.old out.old) (rows out.old) }
+    ensures value { (sense : Bool) → result ≡ closing_of (setting_on patch period sense) (rows lower.now) (rows upper.now) (room_for heights.old wall.old out.old) }
+    ensures out_after { (sense : Bool) → rows out.new ≡ closed_into (setting_on patch period sense) (rows lower.now) (rows upper.now) (room_for heights.old wall.old out.old) (rows out.old) }
 {
-    let inner = inner_between(lower, upper, surface, options);
+    let inner = inner_between(lower, upper, patch);
     let n = strip_rows(lower, upper, inner);
-    if shorter(2 * count(wall), count(out)) < n {
+    if shorter(2 * shorter(heights.len(), wall.len()), out.len()) < n {
         return Err(TooMany { corners: n });
     }
-    raise_wall(wall, lower, upper, frame, surface, options);
+    raise_wall(heights, wall, lower, upper, patch);
     Ok(close_rows(lower, upper, first_rows(wall, inner), period, n, out))
 }

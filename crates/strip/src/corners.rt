@@ -6,24 +6,24 @@ ghost use Rattle.strip.specs.Corners.{at_u, far_side, strip_with};
 ghost use Rattle.strip.specs.Count.{capped, strip_count};
 
 use super::count::strip_count;
-use tables::corners::{Corner, corner_at, count, u_at};
+use tables::corners::{Corner, corner_at, u_at};
+use tables::pieces::part_of;
 use tables::slices::shorter;
 
 // The first n rows of a table; all of them where it has fewer.
-pub fn first_rows(t: &[f64], n: usize) -> &[f64]
+pub fn first_rows(t: &[Corner], n: usize) -> &[Corner]
     ensures { rows result.now ≡ take n (rows t.now) }
 {
-    let e = 5 * shorter(count(t), n);
-    &t[0..e]
+    part_of(t, 0, n)
 }
 
 // How many corners the strip has before its repeats are dropped, with `inner` of them in each wall;
 // usize::MAX where there are more.
-pub fn strip_rows(lower: &[f64], upper: &[f64], inner: usize) -> usize
+pub fn strip_rows(lower: &[Corner], upper: &[Corner], inner: usize) -> usize
     ensures { result ≡ capped (strip_count (length (rows lower.now)) (length (rows upper.now)) inner) }
 {
-    let n = count(lower);
-    let m = count(upper);
+    let n = lower.len();
+    let m = upper.len();
     if shorter(n, m) == 0 {
         return n + m;
     }
@@ -33,26 +33,25 @@ pub fn strip_rows(lower: &[f64], upper: &[f64], inner: usize) -> usize
 fn moved_to(c: Corner, u: f64) -> Corner
     ensures { corner_of result ≡ at_u u (corner_of c) }
 {
-    let at = c.at;
-    Corner { u, v: c.v, at }
+    Corner { u, ..c }
 }
 
 // Row i of a table read from its end.
-fn from_end(t: &[f64], i: usize) -> Corner
+fn from_end(t: &[Corner], i: usize) -> Corner
     ensures { corner_of result ≡ get_or (reverse (rows t.now)) i none }
 {
-    let n = count(t);
+    let n = t.len();
     if i < n {
-        return corner_at(t, n - 1 - i);
+        return t[n - 1 - i];
     }
     corner_at(t, n)
 }
 
 // Corner i of the way back: the upper ring and then the wall, each from its end.
-fn back_corner(upper: &[f64], wall: &[f64], i: usize) -> Corner
+fn back_corner(upper: &[Corner], wall: &[Corner], i: usize) -> Corner
     ensures { corner_of result ≡ get_or (reverse (rows upper.now) ++ reverse (rows wall.now)) i none }
 {
-    let m = count(upper);
+    let m = upper.len();
     if i < m {
         return from_end(upper, i);
     }
@@ -60,12 +59,12 @@ fn back_corner(upper: &[f64], wall: &[f64], i: usize) -> Corner
 }
 
 // Corner i of what comes behind the corner where the first wall begins.
-fn far_corner(upper: &[f64], wall: &[f64], end: f64, i: usize) -> Corner
+fn far_corner(upper: &[Corner], wall: &[Corner], end: f64, i: usize) -> Corner
     ensures { corner_of result ≡ get_or (far_side end (rows upper.now) (rows wall.now)) i none }
 {
-    let k = count(wall);
+    let k = wall.len();
     if i < k {
-        return moved_to(corner_at(wall, i), end);
+        return moved_to(wall[i], end);
     }
     if i == k {
         return moved_to(corner_at(upper, 0), end);
@@ -74,15 +73,21 @@ fn far_corner(upper: &[f64], wall: &[f64], end: f64, i: usize) -> Corner
 }
 
 // Corner i of the strip: lower ring, wall, upper ring from its end, wall from its end.
-pub fn strip_corner(lower: &[f64], upper: &[f64], wall: &[f64], period: f64, i: usize) -> Corner
+pub fn strip_corner(
+    lower: &[Corner],
+    upper: &[Corner],
+    wall: &[Corner],
+    period: f64,
+    i: usize,
+) -> Corner
     ensures { corner_of result ≡ get_or (strip_with period (rows lower.now) (rows upper.now) (rows wall.now)) i none }
 {
-    let n = count(lower);
+    let n = lower.len();
     if i < n {
-        return corner_at(lower, i);
+        return lower[i];
     }
     let past = i - n;
-    if shorter(n, count(upper)) == 0 {
+    if shorter(n, upper.len()) == 0 {
         return from_end(upper, past);
     }
     let end = u_at(lower, 0) + period;

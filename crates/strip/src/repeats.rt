@@ -4,31 +4,27 @@ ghost use Rattle.loops.specs.Repeats.{drop_trailing, keep};
 ghost use Rattle.tables.specs.Rows.{rows, corner_of};
 ghost use Rattle.strip.specs.Corners.{same_at};
 
-use tables::corners::{Corner, corner_at, count};
+use tables::corners::Corner;
+
+// How few rows stay, where the others repeat the first.
+const LEAST: usize = 3;
 
 // Whether two corners stand at one position.
+#[tactic(auto, unfolding(numbers::specs::Position::same))]
 pub fn repeated_by(kept: Corner, next: Corner) -> bool
     ensures { result ≡ same_at (corner_of kept) (corner_of next) }
 {
-    let a = kept.at;
-    let b = next.at;
-    a.same(b)
+    kept.at == next.at
 }
 
 // How many rows stay when those at the end go that repeat the first, while more than three remain.
-pub fn trim(t: &[f64]) -> usize
+pub fn trim(t: &[Corner]) -> usize
     ensures { result ≡ length (drop_trailing same_at keep (rows t.now)) }
 {
-    let first = corner_at(t, 0);
-
-    // A for from the last row down to the fourth would have to say apart how many stay where all go.
-    let mut r = count(t);
-    while 3 < r {
-        let end = r - 1;
-        if !repeated_by(first, corner_at(t, end)) {
-            return r;
+    for end in (LEAST..t.len()).rev() {
+        if !repeated_by(t[0], t[end]) {
+            return end + 1;
         }
-        r = end;
     }
-    r
+    t.len().min(LEAST)
 }

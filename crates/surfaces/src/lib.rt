@@ -4,5 +4,6 @@
 
 pub mod knots;
 pub mod options;
+pub mod patch;
 pub mod steps;
 pub mod surface;

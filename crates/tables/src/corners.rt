@@ -15,6 +15,17 @@ pub struct Corner {
     pub at: Vec3,
 }
 
+// What a place of a table holds until a corner is stored there.
+pub const ORIGIN: Corner = Corner {
+    u: 0.0,
+    v: 0.0,
+    at: Vec3 {
+        x: 0.0,
+        y: 0.0,
+        z: 0.0,
+    },
+};
+
 // What is read past the last row: all five are NaN.
 fn no_corner() -> Corner
     ensures { corner_of result ≡ none }

@@ -4,28 +4,20 @@ ghost use Rattle.loops.specs.Mean.{sum_of, mean_of};
 ghost use Rattle.tables.specs.Corners.{vs};
 ghost use Rattle.tables.specs.Rows.{rows};
 
-use tables::corners::{count, v_at};
+use tables::corners::Corner;
 
 // From -0.0 and in order, as the Rust sums.
-fn sum_v(t: &[f64]) -> f64
+fn sum_v(t: &[Corner]) -> f64
     ensures { result ≡ sum_of (vs (rows t.now)) }
 {
-    let n = count(t);
-    let mut s = -0.0;
-    let mut i = 0;
-    while i < n {
-        s = s + v_at(t, i);
-        i += 1;
-    }
-    s
+    t.iter().fold(-0.0, |s, c| s + c.v)
 }
 
-pub fn mean_v(t: &[f64]) -> f64
+pub fn mean_v(t: &[Corner]) -> f64
     ensures { result ≡ mean_of (vs (rows t.now)) }
 {
-    let n = count(t);
-    if n == 0 {
+    if t.is_empty() {
         return 0.0;
     }
-    sum_v(t) / std::num::nearest_u64_to_f64(n as u64)
+    sum_v(t) / std::num::nearest_u64_to_f64(t.len() as u64)
 }

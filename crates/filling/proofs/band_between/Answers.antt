@@ -1,14 +1,14 @@
 use native.Mathlib.Omega.{arith}
-use Rattle.bands.specs.Columns.{setting_of}
+use Rattle.bands.specs.Columns.{setting_on}
 use Rattle.filling.proofs.Between.{between, still_short}
 use Rattle.filling.proofs.band_between.Goals as goal
 
 pub returns : goal.returns
 returns c =
-    λ few short. between (setting_of c.args.frame c.args.surface c.args.options c.args.period c.args.sense) c.args.counts.now
+    λ few short. between (setting_on c.args.patch c.args.period c.args.sense) c.args.counts.now
     c.args.first.now c.args.later.now c.args.holes.now _ _ _ _ _ _ _ c.args.first_falls c.args.later_falls _ _
     c.lay_rings.ensures.first_after c.lay_rings.ensures.later_after c.reseam.ensures c.take_start.ensures.first_after
     c.take_start.ensures.later_after (omega arith)
     (still_short c.args.first.now _ c.args.later.now _ _ _ _ c.first-1.given c.first-2-1.given c.later-1.given c.later-2-1.given
-    (omega arith)) _ _ _ _ _ _ c.goes_with-with1.ensures c.goes_with-with2.ensures (omega arith) (omega arith)
-    (c.close_ordered.ensures.value c.args.sense) (c.close_ordered.ensures.out_after c.args.sense)
+    (omega arith)) _ _ _ _ _ _ c.goes_with-with1.ensures c.goes_with-with2.ensures
+    (c.close_ordered.ensures.value c.args.sense) (c.close_ordered.ensures.out_after c.args.sense) (omega arith) (omega arith)

@@ -8,15 +8,15 @@ pub returns : goal.returns
 returns c = λ s f room.
     let one = c.ring_of-one in
     let other = c.ring_of-other in
-    band-taken _ _ _ _ _ _ _ _ _ _ f _ _ _ _ _ _
-    (ring-taken _ _ _ _ _ _ _ _ _ _ f _ (a_inside _ _ _ _ _ _ _ _ _ _ f) _ _ _ _ one.ensures.0 (omega arith)
-    (first_short _ _ _ _ _ _ _ _ _ _ f) c.ring_reals-m.ensures one.ensures.1)
-    (ring-taken _ _ _ _ _ _ _ _ _ _ f _ (b_inside _ _ _ _ _ _ _ _ _ _ f) _ _ _ _ other.ensures.0 (omega arith)
-    (later_short _ _ _ _ _ _ _ _ _ _ f) c.ring_reals-n.ensures other.ensures.1)
-    (falls-taken _ _ _ _ _ _ _ _ _ _ f _ (a_inside _ _ _ _ _ _ _ _ _ _ f) _ _ one.ensures.0
+    band-taken _ _ _ _ _ _ _ _ f _ _ _ _ _ _
+    (ring-taken _ _ _ _ _ _ _ _ f _ (a_inside _ _ _ _ _ _ _ _ f) _ _ _ _ one.ensures.0 (omega arith)
+    (first_short _ _ _ _ _ _ _ _ f) c.min-m.ensures one.ensures.1)
+    (ring-taken _ _ _ _ _ _ _ _ f _ (b_inside _ _ _ _ _ _ _ _ f) _ _ _ _ other.ensures.0 (omega arith)
+    (later_short _ _ _ _ _ _ _ _ f) c.min-n.ensures other.ensures.1)
+    (falls-taken _ _ _ _ _ _ _ _ f _ (a_inside _ _ _ _ _ _ _ _ f) _ _ one.ensures.0
     (falls_held _ one.result.travel (sfits_of c.struct_told-1.given.1.1.1.0.1) c.falls.ensures))
-    (falls-taken _ _ _ _ _ _ _ _ _ _ f _ (b_inside _ _ _ _ _ _ _ _ _ _ f) _ _ other.ensures.0
+    (falls-taken _ _ _ _ _ _ _ _ f _ (b_inside _ _ _ _ _ _ _ _ f) _ _ other.ensures.0
     (falls_held _ other.result.travel (sfits_of c.struct_told-2-1.given.1.1.1.0.1) c.falls-2.ensures))
-    (counts-taken _ _ _ _ _ _ _ _ _ _ f _ _ _ _ (omega arith) c.count_holes.ensures c.shorter-k.ensures c.pick.ensures)
-    (holes-taken _ _ _ _ _ _ _ _ _ _ f _ _ room c.pick_holes.ensures) _ _ _ _ _ c.u_period.ensures c.unwrap_or-period.ensures
+    (counts-taken _ _ _ _ _ _ _ _ f _ _ _ _ (omega arith) c.count_holes.ensures c.min-k.ensures c.pick.ensures)
+    (holes-taken _ _ _ _ _ _ _ _ f _ _ room c.pick_holes.ensures) _ _ _ _ _ c.u_period.ensures c.unwrap_or-period.ensures
     c.band_between.ensures

@@ -6,22 +6,22 @@ use Rattle.filling.proofs.Banded.{filled_short, filled_long}
 use Rattle.filling.proofs.fill_band.Goals as goal
 
 pub returns-in-Ok : goal.returns-in-Ok
-returns-in-Ok c = λ s acc two given_is corners_are loops_are wraps_are areas_are surface_is frame_is options_are sense_is.
+returns-in-Ok c = λ s acc two given_is corners_are loops_are wraps_are areas_are patch_is sense_is.
     let a = c.args in
-    let f = face_of_lem s a.corners.now a.given.now a.loops.now a.wraps.now a.frame a.surface a.options a.sense c.last_wrapping.result
+    let f = face_of_lem s a.corners.now a.given.now a.loops.now a.wraps.now a.patch a.sense c.last_wrapping.result
     c.first_wrapping.result _ _
-    acc two given_is corners_are loops_are wraps_are surface_is frame_is options_are sense_is c.last_wrapping.ensures c.unwrap_or-a.ensures
+    acc two given_is corners_are loops_are wraps_are patch_is sense_is c.last_wrapping.ensures c.unwrap_or-a.ensures
     c.first_wrapping.ensures c.unwrap_or-b.ensures in
-    filled_short _ _ _ _ _ _ _ _ _ _ f _ _ _ (c.band_of-closing.ensures s f (room_in _ (omega arith))) _ c.in-Ok.is (omega arith)
+    filled_short _ _ _ _ _ _ _ _ f _ _ _ (c.band_of-closing.ensures s f (room_in _ (omega arith))) _ c.in-Ok.is (omega arith)
     (omega (arith, c.holes-2-1.given))
     _ a.counts.now _ a.areas.now _ _ (search rules) (search rules)
     c.copy_rows.ensures c.pick.ensures (areas-put _ _ _ _ _ _ areas_are c.pick-in-Ok.ensures) c.saturating_sub.ensures
 
 pub returns-in-Err : goal.returns-in-Err
-returns-in-Err c = λ s acc two given_is corners_are loops_are wraps_are areas_are surface_is frame_is options_are sense_is.
+returns-in-Err c = λ s acc two given_is corners_are loops_are wraps_are areas_are patch_is sense_is.
     let a = c.args in
-    let f = face_of_lem s a.corners.now a.given.now a.loops.now a.wraps.now a.frame a.surface a.options a.sense c.last_wrapping.result
+    let f = face_of_lem s a.corners.now a.given.now a.loops.now a.wraps.now a.patch a.sense c.last_wrapping.result
     c.first_wrapping.result _ _
-    acc two given_is corners_are loops_are wraps_are surface_is frame_is options_are sense_is c.last_wrapping.ensures c.unwrap_or-a.ensures
+    acc two given_is corners_are loops_are wraps_are patch_is sense_is c.last_wrapping.ensures c.unwrap_or-a.ensures
     c.first_wrapping.ensures c.unwrap_or-b.ensures in
-    filled_long _ _ _ _ _ _ _ _ _ _ f _ _ _ (c.band_of-closing.ensures s f (room_in _ (omega arith))) _ _ _ c.in-Err.is
+    filled_long _ _ _ _ _ _ _ _ f _ _ _ (c.band_of-closing.ensures s f (room_in _ (omega arith))) _ _ _ c.in-Err.is

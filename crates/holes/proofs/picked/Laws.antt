@@ -76,9 +76,6 @@ module _ (n a b : ℕ) where
   abbrev pub Counting : ℕ → ℕ → Type 0
   Counting k i = Passing (places n) a b k i
 
-  pub counting : Counting 0 0
-  counting = passing (places n) a b
-
   module _ (k i : ℕ) (c : Counting k i) (h : i < n) (t : Bool) (t_is : t ≡ is_ring a b i) where
     pub counting_ring : t ≡ true → Counting k (i + 1)
     counting_ring r = passing-ring (places n) a b 0 k i c (omega (arith, length-places n)) t t_is r

@@ -7,7 +7,6 @@ use native.Mathlib.Numerals.{add-one}
 use native.Mathlib.Omega.{arith}
 use borrow.Author.Tests.{not-true, not-false, leb-true, leb-false}
 use lib.Dec.{leb}
-use lib.Ieee.{Float}
 use lib.ListN.{length, get_or, take, drop, length-append, length-take, length-drop}
 use lib.Seq.{drop-cons}
 use Rattle.numbers.specs.declared.math.Vec3.{Vec3}
@@ -17,6 +16,7 @@ use Rattle.lists.proofs.Pieces.{length-pieces, Cutting, cutting, cutting_piece, 
 use Rattle.lists.proofs.Placed.{placed-none, placed_after, placed_short}
 use Rattle.tables.specs.Corners.{Corners}
 use Rattle.tables.specs.Rows.{rows}
+use Rattle.tables.specs.declared.corners.Corner.{Corner as Held}
 use Rattle.tables.proofs.Rows.{rows_part}
 use Rattle.holes.specs.Others.{is_ring, others_from, others}
 use Rattle.holes.proofs.Picking.{others-first, none-past}
@@ -205,11 +205,14 @@ module _ {A : Type 0} where
 
 -- ---- one loop
 
-module _ (t out : List Float) (here from to : ℕ) (ring : Bool) where
-  pub one-ring : ring ≡ true → rows out ≡ placed here (unless_ring ring from to (rows t)) (rows out)
-  one-ring e = sym (ap (λ (r : Bool). placed here (unless_ring r from to (rows t)) (rows out)) e ∙ placed-none here (rows out))
+module _ (one out : List Held) (here : ℕ) (ring : Bool) where
+  pub one-ring : ring ≡ true → rows out ≡ placed here (cond ring [] (rows one)) (rows out)
+  one-ring e = sym (ap (λ (r : Bool). placed here (cond r [] (rows one)) (rows out)) e ∙ placed-none here (rows out))
 
-  pub one-hole : (out' : List Float) → ring ≡ false → rows out' ≡ placed here (rows (take (5 * to - 5 * from) (drop (5 * from) t))) (rows out)
-      → rows out' ≡ placed here (unless_ring ring from to (rows t)) (rows out)
-  one-hole out' e is =
-      is ∙ ap (λ (l : Corners Vec3). placed here l (rows out)) (rows_part from to t) ∙ sym (ap (λ (r : Bool). placed here (unless_ring r from to (rows t)) (rows out)) e)
+  pub one-hole : (out' : List Held) → ring ≡ false → rows out' ≡ placed here (rows one) (rows out) → rows out' ≡ placed here (cond ring [] (rows one)) (rows out)
+  one-hole out' e is = is ∙ sym (ap (λ (r : Bool). placed here (cond r [] (rows one)) (rows out)) e)
+
+-- a part of the table, as it is picked
+pub part_picked : (t out out' : List Held) (here from to : ℕ) (ring : Bool) → rows out' ≡ placed here (cond ring [] (rows (take (to - from) (drop from t)))) (rows out)
+    → rows out' ≡ placed here (unless_ring ring from to (rows t)) (rows out)
+part_picked t out out' here from to ring e = e ∙ ap (λ (l : Corners Vec3). placed here (cond ring [] l) (rows out)) (rows_part from to t)

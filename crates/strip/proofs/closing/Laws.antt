@@ -11,21 +11,21 @@ use lib.Ieee.{Float}
 use lib.ListN.{length, get_or, take, length-append, length-map, length-reverse}
 use lib.Seq.{take-take, take_at}
 use Rattle.numbers.specs.Rounded.{◌⊕◌}
-use Rattle.numbers.specs.declared.math.Frame.{Frame}
 use Rattle.numbers.specs.declared.math.Vec3.{Vec3}
-use Rattle.surfaces.specs.declared.options.Resolved.{Resolved}
-use Rattle.surfaces.specs.declared.surface.Surface.{Surface}
+use Rattle.surfaces.specs.declared.patch.Patch.{Patch}
 use Rattle.lists.specs.Placed.{placed}
 use Rattle.lists.proofs.Placed.{front-placed}
 use Rattle.loops.specs.Area.{area_of}
 use Rattle.loops.specs.Repeats.{drop_successive, drop_trailing, drop_merging, drop_repeats, keep}
 use Rattle.loops.proofs.Trailing.{trailing_front}
 use Rattle.tables.specs.Corners.{Corners, us, vs}
-use Rattle.tables.specs.Rows.{none}
-use Rattle.bands.specs.Columns.{heights_on, setting_of}
+use Rattle.tables.specs.Rows.{rows, none}
+use Rattle.tables.specs.declared.corners.Corner.{Corner as Held}
+use Rattle.tables.proofs.Rows.{length-rows}
+use Rattle.bands.specs.Columns.{heights_on, setting_on}
 use Rattle.bands.specs.Strip.{Setting, strip, wall}
 use Rattle.std.specs.Prelude.{Result, Ok, Err}
-use Rattle.strip.specs.Closing.{closed_as, no_room, same_corner, band_between, closing_of, closed_into}
+use Rattle.strip.specs.Closing.{room_for, closed_as, no_room, same_corner, band_between, closing_of, closed_into}
 use Rattle.strip.specs.Corners.{same_at, at_u, far_side, row_on, heights_between, wall_between, strip_with}
 use Rattle.strip.specs.Count.{capped, strip_count}
 use Rattle.strip.specs.declared.closing.Closed.{Closed}
@@ -108,27 +108,27 @@ module _ (S : Setting Vec3) (lower upper : Corners Vec3) (room : ℕ) where
 round : {A : Type 0} (p q r s : List A) (c₁ c₂ : A) → p ++ (c₁ ∷ q) ++ (c₂ ∷ r) ++ s ≡ p ++ (c₁ ∷ (q ++ (c₂ ∷ (r ++ s))))
 round p q r s c₁ c₂ = simp append_assoc
 
-module _ (frame : Frame) (surface : Surface) (options : Resolved) (period : Float) where
+module _ (patch : Patch) (period : Float) where
   strip_is : (sense : Bool) (lower upper : Corners Vec3)
-      → strip (setting_of frame surface options period sense) lower upper ≡ strip_with period lower upper (wall_between frame surface options lower upper)
+      → strip (setting_on patch period sense) lower upper ≡ strip_with period lower upper (wall_between patch lower upper)
   unfolding strip strip_with heights_between
   strip_is sense [] upper = refl
   strip_is sense (l ∷ lower) [] = refl
   strip_is sense (l ∷ lower) (u ∷ upper) =
       let begin = l.u in
       let end = l.u ⊕ period in
-      let vs = heights_on surface options l.v u.v in
-      round (l ∷ lower) (wall (setting_of frame surface options period sense) begin end vs) (reverse (u ∷ upper)) (reverse (map (row_on frame surface begin) vs)) (at_u end l) (at_u end u)
-      ∙ ap (λ (up : Corners Vec3). (l ∷ lower) ++ (at_u end l ∷ (up ++ (at_u end u ∷ (reverse (u ∷ upper) ++ reverse (map (row_on frame surface begin) vs))))))
-      (sym (map-map (at_u end) (row_on frame surface begin) vs))
+      let vs = heights_on patch.surface patch.options l.v u.v in
+      round (l ∷ lower) (wall (setting_on patch period sense) begin end vs) (reverse (u ∷ upper)) (reverse (map (row_on patch begin) vs)) (at_u end l) (at_u end u)
+      ∙ ap (λ (up : Corners Vec3). (l ∷ lower) ++ (at_u end l ∷ (up ++ (at_u end u ∷ (reverse (u ∷ upper) ++ reverse (map (row_on patch begin) vs))))))
+      (sym (map-map (at_u end) (row_on patch begin) vs))
 
   wall-few : (lower upper : Corners Vec3)
-      → 2 * length (wall_between frame surface options lower upper) ≤ length (strip_with period lower upper (wall_between frame surface options lower upper))
+      → 2 * length (wall_between patch lower upper) ≤ length (strip_with period lower upper (wall_between patch lower upper))
   unfolding strip_with heights_between
   wall-few [] upper = omega arith
   wall-few (l ∷ lower) [] = omega arith
   wall-few (l ∷ lower) (u ∷ upper) =
-      let w = map (row_on frame surface l.u) (heights_on surface options l.v u.v) in
+      let w = map (row_on patch l.u) (heights_on patch.surface patch.options l.v u.v) in
       let end = l.u ⊕ period in
       let a = length-append (l ∷ lower) (at_u end l ∷ far_side end (u ∷ upper) w) in
       let b = length-append (map (at_u end) w) (at_u end u ∷ (reverse (u ∷ upper) ++ reverse w)) in
@@ -139,69 +139,78 @@ module _ (frame : Frame) (surface : Surface) (options : Resolved) (period : Floa
 
   module _ (lower upper : Corners Vec3) where
     abbrev W : Corners Vec3
-    W = wall_between frame surface options lower upper
+    W = wall_between patch lower upper
 
     abbrev laid : Corners Vec3
     laid = strip_with period lower upper W
 
     -- what the code has counted before it tests the room
     pub record Measured (inner n : ℕ) : Type 0 where
-      pub inner_is : inner ≡ length (heights_between surface options lower upper)
+      pub inner_is : inner ≡ length (heights_between patch lower upper)
       pub count_is : n ≡ capped (strip_count (length lower) (length upper) inner)
 
     module _ (inner n : ℕ) (c : Measured inner n) where
       wall-count : length W ≡ inner
-      wall-count = length-map (heights_between surface options lower upper) (row_on frame surface (get_or lower 0 none).u) ∙ sym c.inner_is
+      wall-count = length-map (heights_between patch lower upper) (row_on patch (get_or lower 0 none).u) ∙ sym c.inner_is
 
       laid-count : n ≡ capped (length laid)
       laid-count = c.count_is ∙ ap (λ (k : ℕ). capped (strip_count (length lower) (length upper) k)) (sym wall-count) ∙ ap capped (sym (length-strip period lower upper W))
 
-      module _ (a b room : ℕ) (wall₀ old : Corners Vec3) (a_is : a ≡ length wall₀) (b_is : (b ≡ length old) × (5 * b < 2 ^ 64)) (room_is : room ≡ min (2 * a) b) where
+      module _ (heights₀ : List Float) (wall₀ old : List Held) (a room : ℕ) (a_is : a ≡ min (length heights₀) (length wall₀)) (room_is : room ≡ min (2 * a) (length old)) where
         abbrev lent : ℕ
-        lent = min (2 * length wall₀) (length old)
+        lent = room_for heights₀ wall₀ old
 
         same-room : room ≡ lent
-        same-room = let p = b_is.0 in omega arith
+        same-room = omega arith
 
-        pub strip_too_many : room < n → ((sense : Bool) → Err (record { corners = n }) ≡ closing_of (setting_of frame surface options period sense) lower upper lent)
-            × ((sense : Bool) → old ≡ closed_into (setting_of frame surface options period sense) lower upper lent old)
+        pub strip_too_many : room < n → ((sense : Bool) → Err (record { corners = n }) ≡ closing_of (setting_on patch period sense) lower upper lent)
+            × ((sense : Bool) → rows old ≡ closed_into (setting_on patch period sense) lower upper lent (rows old))
         strip_too_many h = (λ sense. (both sense).0, λ sense. (both sense).1)
           where
-            both : (sense : Bool) → (Err (record { corners = n }) ≡ closing_of (setting_of frame surface options period sense) lower upper lent)
-                × (old ≡ closed_into (setting_of frame surface options period sense) lower upper lent old)
+            both : (sense : Bool) → (Err (record { corners = n }) ≡ closing_of (setting_on patch period sense) lower upper lent)
+                × (rows old ≡ closed_into (setting_on patch period sense) lower upper lent (rows old))
             both sense =
-                too_many (setting_of frame surface options period sense) lower upper lent n old (laid-count ∙ ap (λ (l : Corners Vec3). capped (length l)) (sym (strip_is sense lower upper)))
+                too_many (setting_on patch period sense) lower upper lent n (rows old) (laid-count ∙ ap (λ (l : Corners Vec3). capped (length l)) (sym (strip_is sense lower upper)))
                 (let e = same-room in omega arith)
 
-        module _ (room_for : n ≤ room) (wall w : Corners Vec3) (wall_is : wall ≡ placed 0 W wall₀) (w_is : w ≡ take inner wall) where
+        module _ (fits_in : n ≤ room) (few : 5 * length old < 2 ^ 64) (wall w : Corners Vec3)
+            (wall_is : length (heights_between patch lower upper) ≤ length heights₀ → wall ≡ placed 0 W (rows wall₀)) (w_is : w ≡ take inner wall) where
           count : n ≡ length laid
-          count = let e = laid-count in let p = b_is.0 in let q = b_is.1 in omega arith
+          count = let e = laid-count in omega arith
 
-          rows_are : w ≡ W
-          rows_are =
+          enough : (length (heights_between patch lower upper) ≤ length heights₀) × (length W ≤ length wall₀)
+          enough =
               let few = wall-few lower upper in
               let e = count in
               let f = wall-count in
-              w_is ∙ (λ i. take (sym f i) (wall_is i)) ∙ front-placed W wall₀ (omega arith)
+              let g = c.inner_is in
+              (omega arith, omega arith)
+
+          rows_are : w ≡ W
+          rows_are =
+              let f = wall-count in
+              let l = length-rows wall₀ in
+              let room = enough.1 in
+              w_is ∙ (λ i. take (sym f i) (wall_is enough.0 i)) ∙ front-placed W (rows wall₀) (omega arith)
 
           pub rows_require : (n ≡ length (strip_with period lower upper w)) × (n ≤ length old)
           rows_require =
-              (count ∙ ap (λ (l : Corners Vec3). length (strip_with period lower upper l)) (sym rows_are), let p = b_is.0 in omega arith)
+              (count ∙ ap (λ (l : Corners Vec3). length (strip_with period lower upper l)) (sym rows_are), omega arith)
 
           module _ (now : Corners Vec3) (r : Closed) (r_is : r ≡ closed_as (drop_repeats same_at (strip_with period lower upper w)))
-              (now_is : now ≡ placed 0 (drop_successive same_at keep (strip_with period lower upper w)) old) where
-            pub strip-fits : ((sense : Bool) → Ok r ≡ closing_of (setting_of frame surface options period sense) lower upper lent)
-                × ((sense : Bool) → now ≡ closed_into (setting_of frame surface options period sense) lower upper lent old)
+              (now_is : now ≡ placed 0 (drop_successive same_at keep (strip_with period lower upper w)) (rows old)) where
+            pub strip-fits : ((sense : Bool) → Ok r ≡ closing_of (setting_on patch period sense) lower upper lent)
+                × ((sense : Bool) → now ≡ closed_into (setting_on patch period sense) lower upper lent (rows old))
             strip-fits = (λ sense. (both sense).0, λ sense. (both sense).1)
               where
-                same-strip : (sense : Bool) → strip_with period lower upper w ≡ strip (setting_of frame surface options period sense) lower upper
+                same-strip : (sense : Bool) → strip_with period lower upper w ≡ strip (setting_on patch period sense) lower upper
                 same-strip sense = ap (strip_with period lower upper) rows_are ∙ sym (strip_is sense lower upper)
 
-                both : (sense : Bool) → (Ok r ≡ closing_of (setting_of frame surface options period sense) lower upper lent)
-                    × (now ≡ closed_into (setting_of frame surface options period sense) lower upper lent old)
+                both : (sense : Bool) → (Ok r ≡ closing_of (setting_on patch period sense) lower upper lent)
+                    × (now ≡ closed_into (setting_on patch period sense) lower upper lent (rows old))
                 both sense =
                     let e = same-strip sense in
-                    let n_is : n ≡ length (strip (setting_of frame surface options period sense) lower upper) = count ∙ ap length (sym (strip_is sense lower upper)) in
-                    fits (setting_of frame surface options period sense) lower upper lent old now r (let q = same-room in omega arith)
+                    let n_is : n ≡ length (strip (setting_on patch period sense) lower upper) = count ∙ ap length (sym (strip_is sense lower upper)) in
+                    fits (setting_on patch period sense) lower upper lent (rows old) now r (let q = same-room in omega arith)
                     (r_is ∙ ap (λ (l : Corners Vec3). closed_as (drop_repeats same_at l)) e)
-                    (now_is ∙ ap (λ (l : Corners Vec3). placed 0 (drop_successive same_at keep l) old) e)
+                    (now_is ∙ ap (λ (l : Corners Vec3). placed 0 (drop_successive same_at keep l) (rows old)) e)

@@ -1,33 +1,19 @@
 -- The corner at each place of a strip.
-use Prim.Native.Nat.{ℕ, suc, ◌+◌, ◌-◌, ◌*◌, ◌^◌, ◌≤◌, ◌<◌, min}
+use Prim.Native.Nat.{ℕ, suc, ◌+◌, ◌-◌, ◌^◌, ◌≤◌, ◌<◌, min}
 use mathlib.Core.Path.{◌≡◌, refl, sym, ap, ◌∙◌}
 use mathlib.Core.List.{List, [], ◌∷◌, ◌++◌, append-nil, map, reverse}
-use native.Mathlib.Decide.{dec_le}
 use native.Mathlib.Omega.{arith}
 use borrow.Author.Tests.{eq-eqb, ne_eqb}
 use lib.Ieee.{Float}
-use lib.ListN.{length, get_or, take, drop, length-append, length-reverse, length-map, get_or-append, get_or-eq_default}
-use lib.Seq.{get_or-append-add, take_all}
+use lib.ListN.{length, get_or, length-append, length-reverse, length-map, get_or-append, get_or-eq_default}
+use lib.Seq.{get_or-append-add}
 use Rattle.numbers.specs.Rounded.{◌⊕◌}
 use Rattle.numbers.specs.declared.math.Vec3.{Vec3}
 use Rattle.lists.proofs.Elements.{get_d_map, get_d_reverse}
 use Rattle.tables.specs.Corners.{Corner, Corners}
-use Rattle.tables.specs.Rows.{rows, none}
-use Rattle.tables.proofs.Rows.{rows_take}
+use Rattle.tables.specs.Rows.{none}
 use Rattle.strip.specs.Corners.{at_u, far_side, strip_with}
 use Rattle.strip.specs.Count.{capped, count_of, strip_count}
-
-least : (n a : ℕ) (r : Corners Vec3) → a ≡ length r → take (min a n) r ≡ take n r
-least n a r e = by_room (dec_le n a)
-  where
-    by_room : Dec (n ≤ a) → take (min a n) r ≡ take n r
-    by_room (yes h) = let m : min a n ≡ n = omega arith in ap (λ (j : ℕ). take j r) m
-    by_room (no h) = take_all (min a n) r (omega arith) ∙ sym (take_all n r (omega arith))
-
-pub first_of : (t : List Float) (a n k : ℕ) → a ≡ length (rows t) → k ≡ min a n → rows (take (5 * k - 0) (drop 0 t)) ≡ take n (rows t)
-first_of t a n k e f =
-    let same : 5 * k - 0 ≡ 5 * k = omega arith in
-    ap (λ (j : ℕ). rows (take j t)) same ∙ rows_take k t ∙ ap (λ (j : ℕ). take j (rows t)) f ∙ least n a (rows t) e
 
 -- ---- lists put together, and read from the end
 
@@ -149,9 +135,9 @@ module _ (period : Float) (lower upper wall : Corners Vec3) (i n : ℕ) (r : Cor
 
 -- n and m are the counts that the code has in hand, of l and u corners
 module _ (l u n m some inner : ℕ) (n_is : n ≡ l) (m_is : m ≡ u) (both : some ≡ min n m) where
-  pub count_none : 5 * n < 2 ^ 64 → 5 * m < 2 ^ 64 → some ≡ 0 → n + m ≡ capped (strip_count l u inner)
+  pub count_none : n + m < 2 ^ 64 → some ≡ 0 → n + m ≡ capped (strip_count l u inner)
   unfolding strip_count
-  count_none a b e = let none-there : min l u ≡ 0 = omega arith in rw (eq-eqb (min l u) 0 none-there) (omega arith)
+  count_none a e = let none-there : min l u ≡ 0 = omega arith in rw (eq-eqb (min l u) 0 none-there) (omega arith)
 
   pub count_some : (r : ℕ) → (some ≡ 0 → ⊥) → r ≡ capped (count_of n m inner) → r ≡ capped (strip_count l u inner)
   unfolding strip_count

@@ -1,16 +1,14 @@
 -- Two rings in their order: which is lower, and the upper one lifted.
 use Rattle.std.proofs.Common.{◌≡◌, ℕ, Result, Option, Some, None, Bool, true, false, cond, not, map, sym, refl, ap, ◌∙◌}
 use lib.Ieee.{Float}
-use Rattle.numbers.specs.declared.math.Frame.{Frame}
 use Rattle.numbers.specs.declared.math.Vec3.{Vec3}
 use Rattle.surfaces.specs.Domains.{v_period}
-use Rattle.surfaces.specs.declared.options.Resolved.{Resolved}
-use Rattle.surfaces.specs.declared.surface.Surface.{Surface}
+use Rattle.surfaces.specs.declared.patch.Patch.{Patch}
 use Rattle.rings.proofs.Carried.{map-unchanged}
 use Rattle.tables.specs.Corners.{Corners, move_v}
 use Rattle.tables.specs.Moves.{moved_by}
 use Rattle.tables.specs.declared.moves.Move.TheVariants.{Up}
-use Rattle.bands.specs.Columns.{setting_of}
+use Rattle.bands.specs.Columns.{setting_on}
 use Rattle.bands.specs.Rings.{Face}
 use Rattle.bands.specs.Strip.{Setting}
 use Rattle.bands.specs.Band.{first_is_lower, lift, mean_v, pick}
@@ -82,20 +80,20 @@ module _ (S : Setting Vec3) (with₁ with₂ : Bool) (face : Face Vec3) where
 
 -- ---- what is answered, and what the tables hold
 
-module _ (frame : Frame) (surface : Surface) (options : Resolved) (period : Float) where
+module _ (patch : Patch) (period : Float) where
   abbrev On : Bool → Setting Vec3
-  On sense = setting_of frame surface options period sense
+  On sense = setting_on patch period sense
 
   -- between a lower and an upper ring
   abbrev pub Between : Corners Vec3 → Corners Vec3 → ℕ → Corners Vec3 → Result Closed TooMany → Corners Vec3 → Type 0
   Between lower upper room old r now = ((sense : Bool) → r ≡ closing_of (On sense) lower upper room) × ((sense : Bool) → now ≡ closed_into (On sense) lower upper room old)
 
-  pub between : (p : Option Float) (t : Bool) (lower upper up : Corners Vec3) (room : ℕ) (old : Corners Vec3) (r : Result Closed TooMany) (now : Corners Vec3) → p ≡ v_period surface
+  pub between : (p : Option Float) (t : Bool) (lower upper up : Corners Vec3) (room : ℕ) (old : Corners Vec3) (r : Result Closed TooMany) (now : Corners Vec3) → p ≡ v_period patch.surface
       → up ≡ map (move_v (lifted_by p t)) upper → Between lower up room old r now
-      → ((sense : Bool) → r ≡ closing_of (On sense) lower (map (move_v (lifted_by (v_period surface) t)) upper) room)
-      × (((sense : Bool) → now ≡ closed_into (On sense) lower (map (move_v (lifted_by (v_period surface) t)) upper) room old) × (up ≡ map (move_v (lifted_by (v_period surface) t)) upper))
+      → ((sense : Bool) → r ≡ closing_of (On sense) lower (map (move_v (lifted_by (v_period patch.surface) t)) upper) room)
+      × (((sense : Bool) → now ≡ closed_into (On sense) lower (map (move_v (lifted_by (v_period patch.surface) t)) upper) room old) × (up ≡ map (move_v (lifted_by (v_period patch.surface) t)) upper))
   between p t lower upper up room old r now e lifted closes =
-      let is : up ≡ map (move_v (lifted_by (v_period surface) t)) upper = lifted ∙ (λ i. map (move_v (lifted_by (e i) t)) upper) in (
+      let is : up ≡ map (move_v (lifted_by (v_period patch.surface) t)) upper = lifted ∙ (λ i. map (move_v (lifted_by (e i) t)) upper) in (
         λ sense. closes.0 sense ∙ ap (λ (l : Corners Vec3). closing_of (On sense) lower l room) is,
         (λ sense. closes.1 sense ∙ ap (λ (l : Corners Vec3). closed_into (On sense) lower l room old) is, is),
       )
@@ -108,11 +106,11 @@ module _ (frame : Frame) (surface : Surface) (options : Resolved) (period : Floa
         × (((sense : Bool) → first ≡ cond (first_lower (On sense) with₁ with₂ face) face.first (upper_of (On sense) with₁ with₂ face))
         × ((sense : Bool) → later ≡ cond (first_lower (On sense) with₁ with₂ face) (upper_of (On sense) with₁ with₂ face) face.later)))
 
-    module _ (p : Option Float) (mean₁ mean₂ : Float) (t crossed : Bool) (period_is : p ≡ v_period surface) (mean₁_is : mean₁ ≡ mean_v face.first)
+    module _ (p : Option Float) (mean₁ mean₂ : Float) (t crossed : Bool) (period_is : p ≡ v_period patch.surface) (mean₁_is : mean₁ ≡ mean_v face.first)
         (mean₂_is : mean₂ ≡ mean_v face.later) (t_is : t ≡ first_is_lower p with₁ with₂ mean₁ mean₂) where
       pub ordered_first : t ≡ true → crossed ≡ crosses with₁ with₂ mean₁ mean₂
-          → Between face.first (map (move_v (lifted_by (v_period surface) crossed)) face.later) room old r now
-          → first ≡ face.first → later ≡ map (move_v (lifted_by (v_period surface) crossed)) face.later → Ordered
+          → Between face.first (map (move_v (lifted_by (v_period patch.surface) crossed)) face.later) room old r now
+          → first ≡ face.first → later ≡ map (move_v (lifted_by (v_period patch.surface) crossed)) face.later → Ordered
       ordered_first h c closes stays lifted = (
         λ sense. closes.0 sense ∙ sym (λ i. closing_of (On sense) (low sense i) (up sense i) room),
         (
@@ -130,12 +128,12 @@ module _ (frame : Frame) (surface : Surface) (options : Resolved) (period : Floa
           low : (sense : Bool) → lower_of (On sense) with₁ with₂ face ≡ face.first
           low sense = lower-first (On sense) with₁ with₂ face p mean₁ mean₂ t crossed period_is mean₁_is mean₂_is t_is h c
 
-          up : (sense : Bool) → upper_of (On sense) with₁ with₂ face ≡ map (move_v (lifted_by (v_period surface) crossed)) face.later
+          up : (sense : Bool) → upper_of (On sense) with₁ with₂ face ≡ map (move_v (lifted_by (v_period patch.surface) crossed)) face.later
           up sense = upper-later (On sense) with₁ with₂ face p mean₁ mean₂ t crossed period_is mean₁_is mean₂_is t_is h c
 
       pub ordered_later : t ≡ false → crossed ≡ crosses with₂ with₁ mean₂ mean₁
-          → Between face.later (map (move_v (lifted_by (v_period surface) crossed)) face.first) room old r now
-          → later ≡ face.later → first ≡ map (move_v (lifted_by (v_period surface) crossed)) face.first → Ordered
+          → Between face.later (map (move_v (lifted_by (v_period patch.surface) crossed)) face.first) room old r now
+          → later ≡ face.later → first ≡ map (move_v (lifted_by (v_period patch.surface) crossed)) face.first → Ordered
       ordered_later h c closes stays lifted = (
         λ sense. closes.0 sense ∙ sym (λ i. closing_of (On sense) (low sense i) (up sense i) room),
         (
@@ -153,5 +151,5 @@ module _ (frame : Frame) (surface : Surface) (options : Resolved) (period : Floa
           low : (sense : Bool) → lower_of (On sense) with₁ with₂ face ≡ face.later
           low sense = lower-later (On sense) with₁ with₂ face p mean₁ mean₂ t crossed period_is mean₁_is mean₂_is t_is h c
 
-          up : (sense : Bool) → upper_of (On sense) with₁ with₂ face ≡ map (move_v (lifted_by (v_period surface) crossed)) face.first
+          up : (sense : Bool) → upper_of (On sense) with₁ with₂ face ≡ map (move_v (lifted_by (v_period patch.surface) crossed)) face.first
           up sense = upper_first (On sense) with₁ with₂ face p mean₁ mean₂ t crossed period_is mean₁_is mean₂_is t_is h c

@@ -4,20 +4,17 @@ use lib.Seq.{length-take-le}
 use Rattle.std.proofs.lemmas.Result.{err_from_is_err_and}
 use Rattle.records.specs.Limits.{version1}
 use Rattle.call.specs.Later.{ring_conditions, strip_conditions}
-use Rattle.filling.proofs.Reading.{counts_told, counts_many, reals_told, read_as}
+use Rattle.filling.proofs.Reading.{counts_told, counts_many, rows_told, read_as}
 use Rattle.filling.proofs.Refused.{rings_judged}
 use Rattle.filling.proofs.Stages.{held, surface_in_lem, records_in, wraps_in_lem, areas_in, refused_as, filled_as}
 use Rattle.filling.proofs.face.fill_record.Goals as goal
 
-pub overflow_mul-e : goal.overflow_mul-e
-overflow_mul-e c = let b = reals_told _ _ _ _ c.read_corners.ensures _ c.unwrap_or-e.ensures in omega arith
-
 pub slice_bounds-corners-end : goal.slice_bounds-corners-end
-slice_bounds-corners-end c = let b = reals_told _ _ _ _ c.read_corners.ensures _ c.unwrap_or-e.ensures in omega (arith, c.corners-2-1.given)
+slice_bounds-corners-end c = let b = rows_told _ _ _ _ c.read_corners.ensures _ c.unwrap_or-e.ensures in omega (arith, c.corners-2-1.given)
 
 pub slice_bounds-measure_loops-end : goal.slice_bounds-measure_loops-end
 slice_bounds-measure_loops-end c = sym
-    (length-take-le _ _ (let b = reals_told _ _ _ _ c.read_corners.ensures _ c.unwrap_or-e.ensures in omega (arith, c.corners-2-1.given)))
+    (length-take-le _ _ (let b = rows_told _ _ _ _ c.read_corners.ensures _ c.unwrap_or-e.ensures in omega (arith, c.corners-2-1.given)))
 
 pub slice_bounds-given-end : goal.slice_bounds-given-end
 slice_bounds-given-end c = let b = counts_told _ _ _ _ c.read_counts.ensures _ c.unwrap_or-l.ensures in omega (arith, c.given-2-1.given)
@@ -28,12 +25,12 @@ slice_bounds-measure_loops-end-2 c = sym
 
 pub slice_bounds-corners-end-2 : goal.slice_bounds-corners-end-2
 slice_bounds-corners-end-2 c =
-    let b = reals_told _ _ _ _ c.read_corners.ensures _ c.unwrap_or-e.ensures in
+    let b = rows_told _ _ _ _ c.read_corners.ensures _ c.unwrap_or-e.ensures in
     omega (arith, c.corners-2-1.given)
 
 pub slice_bounds-check_rings-end : goal.slice_bounds-check_rings-end
 slice_bounds-check_rings-end c = sym
-    (length-take-le _ _ (let b = reals_told _ _ _ _ c.read_corners.ensures _ c.unwrap_or-e.ensures in omega (arith, c.corners-2-1.given)))
+    (length-take-le _ _ (let b = rows_told _ _ _ _ c.read_corners.ensures _ c.unwrap_or-e.ensures in omega (arith, c.corners-2-1.given)))
 
 pub slice_bounds-given-end-2 : goal.slice_bounds-given-end-2
 slice_bounds-given-end-2 c = let b = counts_told _ _ _ _ c.read_counts.ensures _ c.unwrap_or-l.ensures in omega (arith, c.given-2-1.given)
@@ -70,12 +67,12 @@ slice_bounds-fill_path-end-2 c = sym
 
 pub slice_bounds-corners-end-3 : goal.slice_bounds-corners-end-3
 slice_bounds-corners-end-3 c =
-    let b = reals_told _ _ _ _ c.read_corners.ensures _ c.unwrap_or-e.ensures in
+    let b = rows_told _ _ _ _ c.read_corners.ensures _ c.unwrap_or-e.ensures in
     omega (arith, c.corners-2-1.given)
 
 pub slice_bounds-fill_path-end-3 : goal.slice_bounds-fill_path-end-3
 slice_bounds-fill_path-end-3 c = sym
-    (length-take-le _ _ (let b = reals_told _ _ _ _ c.read_corners.ensures _ c.unwrap_or-e.ensures in omega (arith, c.corners-2-1.given)))
+    (length-take-le _ _ (let b = rows_told _ _ _ _ c.read_corners.ensures _ c.unwrap_or-e.ensures in omega (arith, c.corners-2-1.given)))
 
 pub slice_bounds-wraps-end-2 : goal.slice_bounds-wraps-end-2
 slice_bounds-wraps-end-2 c = let b = counts_told _ _ _ _ c.read_counts.ensures _ c.unwrap_or-l.ensures in omega arith

@@ -1,4 +1,4 @@
-use Prim.Native.Nat.{◌-◌, ◌*◌, ◌^◌, ◌<◌}
+use Prim.Native.Nat.{◌*◌, ◌^◌, ◌<◌}
 use mathlib.Core.Path.{◌≡◌}
 use lib.ListN.{length}
 use Rattle.tables.specs.Rows.{rows}
@@ -10,6 +10,3 @@ invariant-loop-i l =
     (length l.out ≡ length l.initial.out) ×
     ((l.n ≡ length (rows l.t)) × ((5 * l.n < 2 ^ 64) × Picking (rows l.t) l.counts l.a l.b l.at (rows l.initial.out) (rows l.out) l.here
     l.from l.i))
-
-abbrev pub decreases-loop-i : goal.decreases-loop-i
-decreases-loop-i l = length l.counts - l.i

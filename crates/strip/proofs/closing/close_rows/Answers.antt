@@ -1,9 +1,7 @@
+use Rattle.tables.proofs.Rows.{length-rows}
 use Rattle.strip.proofs.closing.Laws as laws
 use Rattle.strip.proofs.closing.close_rows.Goals as goal
 
-pub returns : goal.returns
-returns c = record {
-  value = laws.closed_as_lem _ _ _ _ _ _ _ _ _ c.requires.0 c.requires.1 c.keep_successive-m.ensures.value
-      c.keep_successive-m.ensures.out_after c.first_rows.ensures c.trim-count.ensures c.first_rows-2.ensures c.signed_area-area.ensures;
-  out_after = c.keep_successive-m.ensures.out_after;
-}
+pub returns-clause-value : goal.returns-clause-value
+returns-clause-value c = laws.closed_as_lem _ _ _ _ _ _ _ _ _ c.requires.0 (rw length-rows c.requires.1) c.keep_successive-m.ensures.value
+    c.keep_successive-m.ensures.out_after c.first_rows.ensures c.trim-count.ensures c.first_rows-2.ensures c.signed_area-area.ensures

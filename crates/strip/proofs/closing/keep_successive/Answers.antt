@@ -1,4 +1,3 @@
-use Rattle.std.proofs.Common.{length, sym, ap, ◌∙◌}
 use Rattle.strip.proofs.repeats.Laws as laws
 use Rattle.strip.proofs.closing.keep_successive.Goals as goal
 use Rattle.strip.proofs.closing.keep_successive.Goals.{then-not-repeated_by, else-not-repeated_by}
@@ -12,12 +11,11 @@ loop-i-init c = laws.folding _ _ _ _ c.requires.0 c.requires.1 c.if-n-eq0.false 
 pub loop-i-preserved : goal.loop-i-preserved
 loop-i-preserved c =
     elim c.if-not-repeated_by.branch [
-      | then-not-repeated_by w ↦ rw (w.out-is, w.last-is, w.m-is) (laws.fold_other _ _ _ _ _ _ _ _ _ c.loop-i.invariant c.loop-i-test.true
-          c.strip_corner-next.ensures c.repeated_by.ensures _ w.if-not-repeated_by.true w.put_corner.ensures (ap length (sym w.out-is) ∙ c.if-not-repeated_by.auto.out))
-      | else-not-repeated_by w ↦ rw (w.out-is, w.last-is, w.m-is) (laws.fold_repeat _ _ _ _ _ _ _ _ _ c.loop-i.invariant c.loop-i-test.true
+      | then-not-repeated_by w ↦ rw (w.out-is, w.last-is, w.m-is) (laws.fold_other _ _ _ _ _ _ _ c.loop-i.invariant _ _ c.loop-i-test.true
+          c.strip_corner-next.ensures c.repeated_by.ensures w.if-not-repeated_by.true)
+      | else-not-repeated_by w ↦ rw (w.out-is, w.last-is, w.m-is) (laws.fold_repeat _ _ _ _ _ _ _ c.loop-i.invariant _ _ c.loop-i-test.true
           c.strip_corner-next.ensures c.repeated_by.ensures w.if-not-repeated_by.false)
     ]
 
 pub returns : goal.returns
-returns c = let r = laws.fold_end _ _ _ _ _ _ _ _ c.loop-i.invariant c.loop-i-test.false
-    c.put_corner-2.ensures in record { value = r.0; out_after = r.1 }
+returns c = let r = laws.fold_end _ _ _ _ _ _ _ c.loop-i.invariant c.loop-i-test.false in record { value = r.0; out_after = r.1 }

@@ -1,13 +1,13 @@
-use mathlib.Core.Path.{◌∙◌}
-use Rattle.tables.proofs.Rows.{v-at}
-use Rattle.strip.proofs.walls.Raising as laws
+use Rattle.std.proofs.Common.{length, sym, ap, ◌∙◌, arith}
+use Rattle.strip.proofs.walls.Raising.{no_lower, no_upper, heights-there}
 use Rattle.strip.proofs.walls.inner_between.Goals as goal
 
-pub returns-then-shorter-eq0 : goal.returns-then-shorter-eq0
-returns-then-shorter-eq0 c = laws.no_heights _ _ _ _ _ _ _ c.count.ensures.0 c.count-2.ensures.0 c.shorter.ensures
-    c.if-shorter-eq0.true
+pub returns-in_default : goal.returns-in_default
+returns-in_default c = sym (ap length (no_lower c.args.patch c.args.lower.now c.args.upper.now (omega arith)))
+
+pub returns-in_default-upper : goal.returns-in_default-upper
+returns-in_default-upper c = sym (ap length (no_upper c.args.patch c.args.lower.now c.args.upper.now (omega arith)))
 
 pub returns : goal.returns
-returns c = laws.some_heights _ _ _ _ _ _ _ c.count.ensures.0
-    c.count-2.ensures.0 c.shorter.ensures c.if-shorter-eq0.false
-    _ _ _ (c.v_at.ensures ∙ v-at _ 0) (c.v_at-2.ensures ∙ v-at _ 0) c.wall_count.ensures.value
+returns c =
+    c.wall_count.ensures.value ∙ ap length (heights-there c.args.patch c.args.lower.now c.args.upper.now (omega arith) (omega arith))

@@ -7,4 +7,4 @@ returns c = let given = c.args in
     let most = c.max-hi.ensures in
     let steps = c.v_steps.ensures in
     let inner = c.inner_into.ensures in
-    laws.ladder-written given.surface given.options given.a given.b _ _ _ least most steps given.dst.now _ inner.out_after
+    laws.ladder-written given.patch.surface given.patch.options given.a given.b _ _ _ least most steps given.dst.now _ inner.out_after

@@ -1,28 +1,23 @@
-use lib.ListN.{get_or}
-use Rattle.tables.specs.Rows.{rows, none}
-use Rattle.strip.specs.Corners.{row_on, heights_between}
-use mathlib.Core.Path.{◌∙◌}
-use Rattle.tables.proofs.Rows.{u-at, v-at}
-use Rattle.strip.proofs.walls.Raising as laws
+use Rattle.std.proofs.Common.{length, ap, ◌∙◌, arith}
+use Rattle.strip.proofs.walls.Raising.{no_lower, no_upper, heights-there, no_wall, raised}
 use Rattle.strip.proofs.walls.raise_wall.Goals as goal
 
-pub returns-then-n-eq0 : goal.returns-then-n-eq0
-returns-then-n-eq0 c = laws.raised-none (row_on c.args.frame c.args.surface (get_or (rows c.args.lower.now) 0 none).u)
-    (heights_between c.args.surface c.args.options (rows c.args.lower.now) (rows c.args.upper.now)) _ _
-    c.inner_between-n.ensures c.if-n-eq0.true
+pub returns-in_default-clause-raised : goal.returns-in_default-clause-raised
+returns-in_default-clause-raised c fits = no_wall c.args.patch _ _ _ (no_lower c.args.patch c.args.lower.now c.args.upper.now (omega arith))
 
-pub returns-then-count-n : goal.returns-then-count-n
-returns-then-count-n c = laws.raised_short (row_on c.args.frame c.args.surface (get_or (rows c.args.lower.now) 0 none).u)
-    (heights_between c.args.surface c.args.options (rows c.args.lower.now) (rows c.args.upper.now)) _ _
-    c.inner_between-n.ensures _ c.count.ensures.0 c.if-count-n.true
+pub returns-in_default-upper-clause-raised : goal.returns-in_default-upper-clause-raised
+returns-in_default-upper-clause-raised c fits = no_wall c.args.patch _ _ _ (no_upper c.args.patch c.args.lower.now c.args.upper.now (omega arith))
 
-pub spread-requires : goal.spread-requires
-spread-requires c = laws.as_many _ _ _ _ c.wall-1.given c.count.ensures.0 c.if-count-n.false
+pub returns-then-heights-n-clause-raised : goal.returns-then-heights-n-clause-raised
+returns-then-heights-n-clause-raised c fits =
+    let n = c.wall_count-n.ensures.value ∙ ap length (heights-there c.args.patch c.args.lower.now c.args.upper.now (omega arith) (omega arith)) in
+    absurd (omega arith)
 
-pub returns : goal.returns
-returns c = laws.raised (row_on c.args.frame c.args.surface) _ _ _ _ _ _ _ _ _ (c.u_at.ensures ∙ u-at _ 0)
-    (laws.heights_there _ _ _ _ _ _ _ c.inner_between-n.ensures c.if-n-eq0.false (c.v_at.ensures ∙ v-at _ 0) (c.v_at-2.ensures ∙ v-at _ 0))
-    c.inner_between-n.ensures
-    c.count.ensures.0
-    c.if-count-n.false
-    c.heights_into.ensures.dst_after c.spread.ensures
+pub returns-clause-raised : goal.returns-clause-raised
+returns-clause-raised c fits = raised c.args.patch c.args.lower.now c.args.upper.now _ _ _ _ _ (omega arith) (omega arith)
+    c.wall_count-n.ensures.value c.if-heights-n.false c.heights_into.ensures.dst_after c.raise.ensures
+
+pub returns-clause-no_room : goal.returns-clause-no_room
+returns-clause-no_room c short =
+    let n = c.wall_count-n.ensures.value ∙ ap length (heights-there c.args.patch c.args.lower.now c.args.upper.now (omega arith) (omega arith)) in
+    absurd (omega arith)

@@ -1,8 +1,9 @@
+use Rattle.std.proofs.Common.{rules}
 use Rattle.wrapped_region.proofs.mean.Laws.{mean_none, mean_some}
 use Rattle.wrapped_region.proofs.mean.mean_v.Goals as goal
 
-pub returns-then-n-eq0 : goal.returns-then-n-eq0
-returns-then-n-eq0 c = mean_none _ _ c.count-n.ensures.0 c.if-n-eq0.true
+pub returns-then-is_empty : goal.returns-then-is_empty
+returns-then-is_empty c = mean_none c.args.t.now (search rules)
 
 pub returns : goal.returns
-returns c = mean_some _ _ _ _ c.count-n.ensures.0 c.if-n-eq0.false c.sum_v.ensures c.nearest_u64_to_f64.ensures
+returns c = mean_some c.args.t.now _ _ (λ none. search rules) c.sum_v.ensures c.nearest_u64_to_f64.ensures

@@ -1,8 +1,11 @@
-use Rattle.std.proofs.Common.{arith}
-use Rattle.lists.proofs.Folds.{folding_end}
-use Rattle.loops.specs.Mean.{sum_of}
+use Rattle.std.proofs.Common.{rules, ◌∙◌}
+use Rattle.std.proofs.lemmas.Iterator.{YieldsList-from_slice}
+use Rattle.std.proofs.lemmas.Iterator.Consumers.{fold_from_yields_List}
+use Rattle.numbers.specs.Rounded.{◌⊕◌}
+use Rattle.tables.specs.declared.corners.Corner.{Corner as Held}
+use Rattle.wrapped_region.proofs.mean.Laws.{sum_is}
 use Rattle.wrapped_region.proofs.mean.sum_v.Goals as goal
 
 pub returns : goal.returns
-unfolding sum_of
-returns c = folding_end _ _ _ _ _ c.loop-i.invariant.1 (omega (arith, c.loop-i.invariant.0))
+returns c =
+    fold_from_yields_List _ (λ s (x : Held). s ⊕ x.v) _ _ c.fold.ensures.ran (YieldsList-from_slice c.args.t.now cc) (λ s x r f' k. search rules) ∙ sum_is c.args.t.now
