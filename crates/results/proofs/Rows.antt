@@ -22,7 +22,8 @@ module _ {out₀ : List ℕ} {p : ℕ} {xs : List ℕ} where
   counts_start = store_start codes_u16.wide
 
   module _ {out : List ℕ} {i : ℕ} (r : Counts out₀ p xs out i) where
-    pub counts_turn : {out' b : List ℕ} → i < length xs → b ≡ to_le_bytes w64 (get_or xs i 0) → out' ≡ sets out (p + 2 * i) (get_or b 0 0 ∷ get_or b 1 0 ∷ [])
+    pub counts_turn : {out' b : List ℕ} → i < length xs → b ≡ to_le_bytes w64 (get_or xs i 0)
+        → out' ≡ sets out (p + 2 * i) (get_or b 0 0 ∷ get_or b 1 0 ∷ [])
         → Counts out₀ p xs out' (i + 1)
     unfolding bytes
     counts_turn h b e = store_turn codes_u16.wide r 0 h (e ∙ ap (λ (l : List ℕ). sets out (p + 2 * i) (get_or l 0 0 ∷ get_or l 1 0 ∷ [])) b)
@@ -40,7 +41,8 @@ module _ {out₀ : List ℕ} {p : ℕ} {xs : List Float} where
   reals-start = store_start codes_real.wide
 
   module _ {out : List ℕ} {i : ℕ} (r : Reals out₀ p xs out i) where
-    pub reals_turn : {out' b : List ℕ} {n : ℕ} → i < length xs → n ≡ to_bits binary64 (get_or xs i nan) → b ≡ to_le_bytes w64 n → out' ≡ sets out (p + 8 * i) b
+    pub reals_turn : {out' b : List ℕ} {n : ℕ} → i < length xs → n ≡ to_bits binary64 (get_or xs i nan)
+        → b ≡ to_le_bytes w64 n → out' ≡ sets out (p + 8 * i) b
         → Reals out₀ p xs out' (i + 1)
     reals_turn h n b e = store_turn codes_real.wide r nan h
         (e ∙ ap (sets out (p + 8 * i)) (b ∙ ap (to_le_bytes w64) n ∙ as_real (get_or xs i nan)))
