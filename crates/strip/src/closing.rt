@@ -8,12 +8,13 @@ ghost use Rattle.tables.specs.Rows.{rows};
 ghost use Rattle.strip.specs.Closing.{room_for, closed_as, closing_of, closed_into};
 ghost use Rattle.strip.specs.Corners.{same_at, strip_with};
 
-use super::corners::{first_rows, strip_corner, strip_rows};
+use super::corners::{strip_corner, strip_rows};
 use super::repeats::{repeated_by, trim};
 use super::walls::{inner_between, raise_wall};
 use loops::rows::signed_area;
 use surfaces::patch::Patch;
 use tables::corners::Corner;
+use tables::pieces::part_of;
 use tables::slices::shorter;
 
 // How many corners are left, and the area they enclose in u and v.
@@ -76,14 +77,14 @@ fn close_rows(
     ensures out_after { rows out.new ≡ placed 0 (drop_successive same_at keep (strip_with period (rows lower.now) (rows upper.now) (rows wall.now))) (rows out.old) }
 {
     let m = keep_successive(lower, upper, wall, period, n, out);
-    let count = trim(first_rows(out, m));
-    let area = signed_area(first_rows(out, count));
+    let count = trim(part_of(out, 0, m));
+    let area = signed_area(part_of(out, 0, count));
     Closed { count, area }
 }
 
 // The band between a lower and an upper ring in the front of `out`: how many corners it has, and
-// their area. The wall and its heights are scratch. The strip is counted first: where there is no room for it, `out`
-// stays as it is.
+// their area. The wall and its heights are scratch. The strip is counted first: where there is no
+// room for it, `out` stays as it is.
 pub fn close_strip(
     lower: &[Corner],
     upper: &[Corner],
@@ -102,5 +103,5 @@ pub fn close_strip(
         return Err(TooMany { corners: n });
     }
     raise_wall(heights, wall, lower, upper, patch);
-    Ok(close_rows(lower, upper, first_rows(wall, inner), period, n, out))
+    Ok(close_rows(lower, upper, part_of(wall, 0, inner), period, n, out))
 }

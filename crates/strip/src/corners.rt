@@ -1,21 +1,13 @@
 // The corners of a strip by value, one by one: nothing of the strip is laid out before its repeats
 // are dropped.
-ghost use Rattle.std.specs.Prelude.{◌≡◌, ◌++◌, reverse, length, get_or, take};
+ghost use Rattle.std.specs.Prelude.{◌≡◌, ◌++◌, reverse, length, get_or};
 ghost use Rattle.tables.specs.Rows.{rows, corner_of, none};
 ghost use Rattle.strip.specs.Corners.{at_u, far_side, strip_with};
 ghost use Rattle.strip.specs.Count.{capped, strip_count};
 
 use super::count::strip_count;
 use tables::corners::{Corner, corner_at, u_at};
-use tables::pieces::part_of;
 use tables::slices::shorter;
-
-// The first n rows of a table; all of them where it has fewer.
-pub fn first_rows(t: &[Corner], n: usize) -> &[Corner]
-    ensures { rows result.now ≡ take n (rows t.now) }
-{
-    part_of(t, 0, n)
-}
 
 // How many corners the strip has before its repeats are dropped, with `inner` of them in each wall;
 // usize::MAX where there are more.

@@ -69,8 +69,7 @@ fn raise(wall: &mut [Corner], patch: Patch, u: f64, heights: &[f64])
     if wall.len() < heights.len() {
         return;
     }
-    for (i, v) in heights.iter().enumerate() {
-        let v = *v;
+    for (i, &v) in heights.iter().enumerate() {
         let at = patch.point_at(Vec2 { u, v });
         wall[i] = Corner { u, v, at };
     }

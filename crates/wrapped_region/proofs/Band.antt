@@ -1,6 +1,5 @@
 -- What `close_ordered` closes is the band of bands/specs/Band.antt, where its two rings are those that are joined there.
-use Rattle.std.proofs.Common.{◌≡◌, ℕ, Ok, Err, ◌<◌, ◌≤◌, Bool, true, false, cond, not, leb, map, length, take, refl, ◌∙◌, le-leb}
-use borrow.Author.Tests.{lt-leb}
+use Rattle.std.proofs.Common.{◌≡◌, ℕ, Ok, Err, ◌≤◌, Bool, true, false, cond, not, leb, map, length, take, refl, ◌∙◌}
 use Rattle.numbers.specs.declared.math.Vec3.{Vec3}
 use Rattle.tables.specs.Corners.{Corners, move_v}
 use Rattle.bands.specs.Given.{Given}
@@ -58,13 +57,6 @@ module _ (S : Setting Vec3) (given : Given Vec3) (face : Face Vec3) (first_is : 
     unfolding closing_of
     closing_is =
         λ i. cond (leb (length (same-strip i)) room) (Ok (closed_as (same-band i))) (Err (no_room (length (same-strip i))))
-
-    pub closes : length (strip_of S given) ≤ room
-        → closing_of S (lower_of S with₁ with₂ face) (upper_of S with₁ with₂ face) room ≡ Ok (closed_as (outer S given))
-    closes h = closing_is ∙ rw (le-leb (length (strip_of S given)) room h)
-
-    pub too_many : room < length (strip_of S given) → closing_of S (lower_of S with₁ with₂ face) (upper_of S with₁ with₂ face) room ≡ Err (no_room (length (strip_of S given)))
-    too_many h = closing_is ∙ rw (lt-leb (length (strip_of S given)) room h)
 
     -- the band in front of the result's table, which held `old` and now holds `out`
     pub outer_in_front : (old out : Corners Vec3) → out ≡ closed_into S (lower_of S with₁ with₂ face) (upper_of S with₁ with₂ face) room old

@@ -46,8 +46,8 @@ fn close_between(
 }
 
 // The strip between two rings into the front of `out`, as `close_strip` closes it; with1 and with2 say
-// whether the first and the later one go with the face. The wall and its heights are scratch. The upper ring stays
-// lifted, the lower one as it was.
+// whether the first and the later one go with the face. The wall and its heights are scratch. The
+// upper ring stays lifted, the lower one as it was.
 pub fn close_ordered(
     first: &mut [Corner],
     later: &mut [Corner],
