@@ -55,11 +55,6 @@ module _ {A : Type 0} where
   pub front-pieces : (ns : List ℕ) (xs : List A) (end : ℕ) → end ≡ length (flatten (pieces ns xs)) → take end xs ≡ flatten (pieces ns xs)
   front-pieces ns xs end e = ap (take end) (whole ns xs) ∙ take_at (flatten (pieces ns xs)) (behind ns xs) end (sym e)
 
-  pub pieces_fit : (ns : List ℕ) (xs : List A) → length (flatten (pieces ns xs)) ≤ length xs
-  pieces_fit ns xs =
-      let l : length xs ≡ length (flatten (pieces ns xs)) + length (behind ns xs) = ap length (whole ns xs) ∙ length-append (flatten (pieces ns xs)) (behind ns xs) in
-      omega arith
-
   -- of the lengths that they have
   pub pieces-again : (ws : List (List A)) (r : List A) → pieces (map length ws) (flatten ws ++ r) ≡ ws
   unfolding flatten pieces

@@ -31,7 +31,8 @@ use Rattle.call.specs.Paths.{ResultLoop, loop_of, signed_area, with_area, outer_
 use Rattle.call.proofs.Outermost.{outer_below}
 use Rattle.closed_face.specs.First.{part_first}
 use Rattle.closed_face.specs.Face.{outer_found, rows_then, areas_left, IsFace}
-use Rattle.closed_face.proofs.Loops.{first-between, pieces-again, pieces_fit}
+use Rattle.lists.proofs.Pieces.{pieces_fit}
+use Rattle.closed_face.proofs.Loops.{first-between, pieces-again}
 
 -- ---- a hole by its corners is the hole by its columns
 

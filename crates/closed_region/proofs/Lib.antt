@@ -1,4 +1,3 @@
-pub mod EachPiece
 pub mod BoxTable
 pub mod OuterAmong
 pub mod MovedHoles

@@ -8,7 +8,7 @@ ghost use Rattle.closed_region.specs.Loops.{box_in};
 use super::boxes::Bounds;
 use super::outer::{empty_box, hull};
 use tables::corners::Corner;
-use tables::slices::piece_end;
+use tables::loops::Loops;
 
 // The box of a loop.
 pub fn box_of(t: &[Corner]) -> Bounds
@@ -36,10 +36,7 @@ pub fn boxes_into(t: &[Corner], counts: &[usize], boxes: &mut [Bounds])
     if boxes.len() < counts.len() {
         return;
     }
-    let mut from = 0;
-    for (i, &n) in counts.iter().enumerate() {
-        let to = piece_end(t.len(), from, n);
-        boxes[i] = box_of(&t[from..to]);
-        from = to;
+    for (i, one) in Loops::new(t, counts).enumerate() {
+        boxes[i] = box_of(one);
     }
 }

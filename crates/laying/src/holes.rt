@@ -11,6 +11,7 @@ ghost use Rattle.bands.specs.Rings.{onto, any_straddles};
 use rings::table_choices::{greatest, least, straddles, strip_shift};
 use seam::gap::Span;
 use tables::corners::Corner;
+use tables::loops::Loops;
 use tables::moves::{Move, move_unless_zero};
 use tables::slices::piece_end;
 
@@ -38,13 +39,10 @@ pub fn onto_all(t: &mut [Corner], counts: &[usize], lo: f64, period: f64)
 pub fn any_straddles(t: &[Corner], counts: &[usize], lo: f64, period: f64) -> bool
     ensures { result ≡ any_straddles period lo (pieces counts.now (rows t.now)) }
 {
-    let mut from = 0;
-    for points in counts {
-        let to = piece_end(t.len(), from, *points);
-        if straddles(&t[from..to], lo, period) {
+    for hole in Loops::new(t, counts) {
+        if straddles(hole, lo, period) {
             return true;
         }
-        from = to;
     }
     false
 }
@@ -66,10 +64,7 @@ pub fn spans_into(out: &mut [Span], t: &[Corner], counts: &[usize])
     if out.len() < counts.len() {
         return;
     }
-    let mut from = 0;
-    for (i, points) in counts.iter().enumerate() {
-        let to = piece_end(t.len(), from, *points);
-        out[i] = span_of(&t[from..to]);
-        from = to;
+    for (i, hole) in Loops::new(t, counts).enumerate() {
+        out[i] = span_of(hole);
     }
 }

@@ -11,3 +11,4 @@ pub mod Stores
 pub mod Pieces
 pub mod Storing
 pub mod Reverse
+pub mod Remaining

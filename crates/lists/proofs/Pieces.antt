@@ -1,7 +1,7 @@
 -- Loops over the pieces of a list: each begins where the one before it ended.
 use Prim.Native.Nat.{ℕ, zero, suc, ◌+◌, ◌-◌, ◌≤◌, ◌<◌, min}
 use mathlib.Core.Path.{◌≡◌, refl, sym, ap, ◌∙◌}
-use mathlib.Core.List.{List, [], ◌∷◌, ◌++◌, map, append_assoc}
+use mathlib.Core.List.{List, [], ◌∷◌, ◌++◌, map, flatten, append_assoc}
 use native.Mathlib.Nat.{zero-min, min-zero, suc-min-suc}
 use native.Mathlib.Numerals.{add-one}
 use native.Mathlib.Omega.{arith}
@@ -27,6 +27,19 @@ module _ {A : Type 0} where
   unfolding pieces
   length-pieces [] xs = refl
   length-pieces (n ∷ ns) xs = ap suc (length-pieces ns (drop n xs))
+
+  pub no-pieces : (ns : List ℕ) (xs : List A) → length ns ≡ 0 → pieces ns xs ≡ []
+  unfolding pieces
+  no-pieces [] xs e = refl
+  no-pieces (n ∷ ns) xs e = absurd (omega (arith, e))
+
+  -- together they are no longer than the list
+  pub pieces_fit : (ns : List ℕ) (xs : List A) → length (flatten (pieces ns xs)) ≤ length xs
+  unfolding pieces flatten
+  pieces_fit [] xs = omega arith
+  pieces_fit (n ∷ ns) xs =
+      let behind = pieces_fit ns (drop n xs) in
+      omega (arith, behind, length-append (take n xs) (flatten (pieces ns (drop n xs))), length-take n xs, length-drop n xs)
 
   -- the piece of n elements from `from` on ends at `to`
   next_piece : (n : ℕ) (ns : List ℕ) (xs : List A) (from to : ℕ) → from ≤ length xs → to ≡ min (from + n) (length xs)

@@ -1,13 +1,11 @@
 -- The records of a face's loops, put into a list one by one, and what is read out of it.
-use Prim.Native.Nat.{ℕ, suc, ◌+◌, ◌-◌, ◌≤◌, ◌<◌, min}
+use Prim.Native.Nat.{ℕ, suc, ◌+◌, ◌≤◌, ◌<◌}
 use mathlib.Core.Path.{◌≡◌, refl, sym, ap, ◌∙◌}
-use mathlib.Core.List.{List, [], ◌∷◌, map}
-use native.Mathlib.Numerals.{add-one}
+use mathlib.Core.List.{List, [], ◌∷◌, map, flatten}
 use native.Mathlib.Omega.{arith}
 use lib.IntN.{ℤ}
 use lib.Ieee.{Float}
-use lib.ListN.{length, get_or, set, take, drop, replicate, length-take, length-drop}
-use lib.Seq.{drop-cons}
+use lib.ListN.{length, length-set, set, take, replicate, length-append}
 use mir.Syntax.{w32}
 use mir.Val.{SFits, to_z, of_z}
 use mir.Facts.{to_z-of_z}
@@ -17,8 +15,8 @@ use Rattle.numbers.specs.declared.math.Vec3.{Vec3}
 use Rattle.lists.specs.Pieces.{pieces}
 use Rattle.lists.specs.Placed.{placed}
 use Rattle.lists.proofs.Maps.{map-take}
-use Rattle.lists.proofs.Filling.{Filling, front, front_turn, filling_end}
-use Rattle.lists.proofs.Pieces.{Cutting, cutting, cutting_turn, cutting_piece, length-pieces}
+use Rattle.lists.proofs.Pieces.{length-pieces, pieces_fit}
+use Rattle.lists.proofs.Remaining.{Remaining, remaining, remaining_turn, remaining_end}
 use Rattle.lists.proofs.Placed.{placed_short, front-placed}
 use Rattle.loop_records.specs.declared.LoopRecord.{LoopRecord}
 use Rattle.loop_records.specs.Record.{no_loop}
@@ -55,6 +53,38 @@ module _ (period : Option Float) where
   unfolding records_from
   first-record start r loops = refl
 
+  no-record : (start : ℕ) → records_from period start [] ≡ []
+  unfolding records_from
+  no-record start = refl
+
+-- the records that are still to be stored: of the loops that are left, which begin at `start` of n rows
+module _ (period : Option Float) (all : List LoopRecord) (n : ℕ) where
+  pub record Recording (d : List LoopRecord) (i start : ℕ) (left : List (Corners Vec3)) : Type 0 where
+    pub stored : Remaining all d i (records_from period start left)
+    pub within : start + length (flatten left) ≤ n
+    pub sixteen : length d ≡ 16
+
+  module _ (d : List LoopRecord) (i start : ℕ) (left : List (Corners Vec3)) (r : Corners Vec3) (rest : List (Corners Vec3))
+      (k : Recording d i start left) (e : left ≡ r ∷ rest) where
+    pub recording_room : (i < 16) × (start + length r ≤ n)
+    unfolding flatten
+    recording_room =
+        let many = ap length e in
+        let long = ap (λ (ls : List (Corners Vec3)). length (flatten ls)) e ∙ length-append r (flatten rest) in
+        (omega (arith, k.stored.room, k.sixteen, length_records period start left, many), omega (arith, k.within, long))
+
+    pub recording_turn : Recording (set d i (record_of period start r)) (i + 1) (start + length r) rest
+    unfolding flatten
+    recording_turn = record {
+      stored = remaining_turn all d i (records_from period start left) (record_of period start r) (records_from period (start + length r) rest) k.stored
+          (ap (records_from period start) e ∙ first-record period start r rest);
+      within = let long = ap (λ (ls : List (Corners Vec3)). length (flatten ls)) e ∙ length-append r (flatten rest) in omega (arith, k.within, long);
+      sixteen = length-set d i (record_of period start r) ∙ k.sixteen;
+    }
+
+  pub recording_end : (d : List LoopRecord) (i start : ℕ) (left : List (Corners Vec3)) → Recording d i start left → left ≡ [] → d ≡ all
+  recording_end d i start left k e = remaining_end all d i (records_from period start left) k.stored (ap (records_from period start) e ∙ no-record period start)
+
 module _ (period : Option Float) (ns : List ℕ) (xs : Corners Vec3) (d₀ : List LoopRecord) where
   abbrev wanted : List LoopRecord
   wanted = records_from period 0 (pieces ns xs)
@@ -62,48 +92,11 @@ module _ (period : Option Float) (ns : List ℕ) (xs : Corners Vec3) (d₀ : Lis
   length_wanted : length wanted ≡ length ns
   length_wanted = length_records period 0 (pieces ns xs) ∙ length-pieces ns xs
 
-  pub record Recording (d : List LoopRecord) (from i : ℕ) : Type 0 where
-    pub at : Cutting ns xs from i
-    pub rest : drop i wanted ≡ records_from period from (drop i (pieces ns xs))
-    pub fill : Filling 0 wanted d₀ d i
-
   pub no_recording : length d₀ < length ns → d₀ ≡ placed 0 wanted d₀
   no_recording h = let l = length_wanted in sym (placed_short 0 wanted d₀ (omega arith))
 
-  pub recording : length ns ≤ length d₀ → Recording d₀ 0 0
-  recording h = let l = length_wanted in record { at = cutting ns xs; rest = refl; fill = front wanted d₀ (omega arith) }
-
-  pub recording_turn : (d : List LoopRecord) (from to i : ℕ) (x : LoopRecord) → Recording d from i → i < length ns → to ≡ min (from + get_or ns i 0) (length xs)
-      → x ≡ record_of period from (take (to - from) (drop from xs)) → Recording (set d i x) to (i + 1)
-  recording_turn d from to i x k h e x_is = record {
-    at = cutting_turn ns xs from to i k.at h e;
-    rest = rw (add-one i) (ap (drop 1) cut ∙ ap (λ (n : ℕ). records_from period n (drop (suc i) (pieces ns xs))) end);
-    fill = front_turn wanted d₀ d i x no_loop k.fill (let l = length_wanted in omega arith)
-        (x_is ∙ ap (record_of period from) (sym piece) ∙ sym (ap (λ (l : List LoopRecord). get_or l 0 no_loop) cut));
-  }
-    where
-      here : Corners Vec3
-      here = get_or (pieces ns xs) i []
-
-      piece : here ≡ take (to - from) (drop from xs)
-      piece = cutting_piece ns xs from to i k.at h e
-
-      cut : get_or wanted i no_loop ∷ drop (suc i) wanted ≡ record_of period from here ∷ records_from period (from + length here) (drop (suc i) (pieces ns xs))
-      cut =
-          sym (drop-cons wanted i no_loop (let l = length_wanted in omega arith)) ∙ k.rest
-          ∙ ap (records_from period from) (drop-cons (pieces ns xs) i [] (let l = length-pieces ns xs in omega arith))
-          ∙ first-record period from here (drop (suc i) (pieces ns xs))
-
-      end : from + length here ≡ to
-      end =
-          let low = k.at.low in
-          let t = length-take (to - from) (drop from xs) in
-          let r = length-drop from xs in
-          let n : length here ≡ length (take (to - from) (drop from xs)) = ap length piece in
-          omega arith
-
-  pub recording_end : (d : List LoopRecord) (from i : ℕ) → Recording d from i → length ns ≤ i → d ≡ placed 0 wanted d₀
-  recording_end d from i k h = filling_end 0 wanted d₀ d i k.fill (let l = length_wanted in omega arith)
+  pub recording : length ns ≤ 16 → length d₀ ≡ 16 → Recording period (placed 0 wanted d₀) (length xs) d₀ 0 0 (pieces ns xs)
+  recording h e = record { stored = remaining wanted d₀ (let l = length_wanted in omega arith); within = omega (arith, pieces_fit ns xs); sixteen = e }
 
 -- what is read of each record: of those of the loops, in front
 pub read_out : {B : Type 0} (f : LoopRecord → B) (period : Option Float) (ns : List ℕ) (xs : Corners Vec3) (d : List LoopRecord) (b : List B) → length ns ≤ 16

@@ -11,7 +11,7 @@ ghost use Rattle.loop_records.specs.Loops.{record_of, records_from};
 use super::{LoopRecord, no_loop};
 use loops::rows::{net_wrap, signed_area};
 use tables::corners::Corner;
-use tables::slices::piece_end;
+use tables::loops::Loops;
 
 // The record of a loop that begins at row `start` of the face's table.
 fn measured(t: &[Corner], start: usize, period: Option<f64>) -> LoopRecord
@@ -35,11 +35,10 @@ pub fn measure_loops(t: &[Corner], counts: &[usize], period: Option<f64>) -> [Lo
     if counts.len() > 16 {
         return loops;
     }
-    let mut from = 0;
-    for (i, points) in counts.iter().enumerate() {
-        let to = piece_end(t.len(), from, *points);
-        loops[i] = measured(&t[from..to], from, period);
-        from = to;
+    let mut start = 0;
+    for (i, one) in Loops::new(t, counts).enumerate() {
+        loops[i] = measured(one, start, period);
+        start += one.len();
     }
     loops
 }

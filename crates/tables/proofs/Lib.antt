@@ -2,3 +2,4 @@ pub mod Rows
 pub mod PartRows
 pub mod Unless
 pub mod CornersFrom
+pub mod FirstLoop

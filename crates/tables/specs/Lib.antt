@@ -1,3 +1,4 @@
 pub mod Corners
 pub mod Rows
 pub mod Moves
+pub mod Loops

@@ -4,6 +4,7 @@
 
 pub mod copies;
 pub mod corners;
+pub mod loops;
 pub mod moves;
 pub mod pieces;
 pub mod ring_point;

@@ -1,16 +1,28 @@
-use Rattle.laying.proofs.EachHole.{crossing, crossing_found, crossing_turn, crossing_end}
+use Rattle.std.proofs.Common.{◌||◌, Bool, ap, sym, ◌∙◌}
+use Rattle.tables.specs.Rows.{rows}
+use Rattle.tables.specs.Loops.{loops_left}
+use Rattle.bands.specs.Rings.{any_straddles}
+use Rattle.laying.proofs.EachHole.{straddles-first, straddles-none}
 use Rattle.laying.proofs.holes.any_straddles.Goals as goal
 
-pub loop-points-init : goal.loop-points-init
-loop-points-init c = crossing _ _ _ _
+pub loop-hole-init : goal.loop-hole-init
+loop-hole-init c =
+    ap (any_straddles c.args.period c.args.lo) (ap loops_left c.into_iter-hole-iterator.ensures.into_iter_gives ∙ c.new-hole-items.ensures)
 
 pub returns-then-straddles : goal.returns-then-straddles
-returns-then-straddles c = crossing_found _ _ _ _ _ _ _ c.loop-points.invariant c.loop-points-test.true
-    c.piece_end-to.ensures _ c.straddles.ensures c.if-straddles.true
+returns-then-straddles c =
+    let later = any_straddles c.args.period c.args.lo (loops_left c.next.new.self) in
+    let here = sym c.straddles.ensures ∙ c.if-straddles.true in
+    sym (sym c.loop-hole.invariant ∙ ap (any_straddles c.args.period c.args.lo) c.in-Some.ensures.steps
+    ∙ straddles-first c.args.period c.args.lo (rows c.in-Some.hole.now) (loops_left c.next.new.self) ∙ ap (λ (b : Bool). b || later) here)
 
-pub loop-points-preserved : goal.loop-points-preserved
-loop-points-preserved c = crossing_turn _ _ _ _ _ _ _ c.loop-points.invariant c.loop-points-test.true
-    c.piece_end-to.ensures _ c.straddles.ensures c.if-straddles.false
+pub loop-hole-preserved : goal.loop-hole-preserved
+loop-hole-preserved c =
+    let later = any_straddles c.args.period c.args.lo (loops_left c.next.new.self) in
+    let here = sym c.straddles.ensures ∙ c.if-straddles.false in
+    sym (sym c.loop-hole.invariant ∙ ap (any_straddles c.args.period c.args.lo) c.in-Some.ensures.steps
+    ∙ straddles-first c.args.period c.args.lo (rows c.in-Some.hole.now) (loops_left c.next.new.self) ∙ ap (λ (b : Bool). b || later) here)
 
 pub returns : goal.returns
-returns c = crossing_end _ _ _ _ _ _ c.loop-points.invariant c.loop-points-test.false
+returns c =
+    sym (sym c.loop-hole.invariant ∙ ap (any_straddles c.args.period c.args.lo) c.in-None.ensures.steps.0 ∙ straddles-none c.args.period c.args.lo)

@@ -1,5 +1,9 @@
-use Rattle.laying.proofs.EachHole.{Crossing}
+use Rattle.std.proofs.Common.{◌≡◌}
+use Rattle.lists.specs.Pieces.{pieces}
+use Rattle.tables.specs.Rows.{rows}
+use Rattle.tables.specs.Loops.{loops_left}
+use Rattle.bands.specs.Rings.{any_straddles}
 use Rattle.laying.proofs.holes.any_straddles.Given as goal
 
-abbrev pub invariant-loop-points : goal.invariant-loop-points
-invariant-loop-points l = Crossing l.period l.lo l.counts l.t l.from l.points-index
+abbrev pub invariant-loop-hole : goal.invariant-loop-hole
+invariant-loop-hole l = any_straddles l.period l.lo (loops_left l.hole-iterator) ≡ any_straddles l.period l.lo (pieces l.counts (rows l.t))

@@ -1,15 +1,30 @@
-use Rattle.laying.proofs.EachHole.{not_covering, covering, covering_turn, covering_end}
+use Rattle.std.proofs.Common.{map, ap, sym, ◌∙◌, arith}
+use Rattle.lists.specs.Pieces.{pieces}
+use Rattle.lists.proofs.Remaining.{remaining, remaining_turn, remaining_end}
+use Rattle.tables.specs.Corners.{us}
+use Rattle.tables.specs.Rows.{rows}
+use Rattle.tables.specs.Loops.{loops_left}
+use Rattle.seam.specs.Gap.{span_of}
+use Rattle.laying.proofs.EachHole.{not_covering, length-spans, span_of_hole, spans_by_hole}
 use Rattle.laying.proofs.holes.spans_into.Goals as goal
 
 pub returns-then-out-counts : goal.returns-then-out-counts
 returns-then-out-counts c = not_covering _ _ _ c.if-out-counts.true
 
 pub loop-i-init : goal.loop-i-init
-loop-i-init c = covering _ _ _ c.if-out-counts.false
+loop-i-init c =
+    let spans = map span_of (pieces c.args.counts.now (us (rows c.args.t.now))) in
+    let begin = c.into_iter-i-iterator.ensures.into_iter_gives in
+    let count = ap (λ e. e.count) begin ∙ c.enumerate-i-items.ensures.count in
+    let loops = ap (λ e. loops_left e.iter) begin ∙ ap loops_left c.enumerate-i-items.ensures.source ∙ c.new.ensures in
+    let left = ap (map span_of_hole) loops ∙ sym (spans_by_hole c.args.counts.now (rows c.args.t.now)) in
+    rw (count, left) (remaining spans c.args.out.now (omega (arith, c.if-out-counts.false, length-spans c.args.counts.now c.args.t.now c.args.out.now)))
 
 pub loop-i-preserved : goal.loop-i-preserved
-loop-i-preserved c = covering_turn _ _ _ _ _ _ _ _ c.loop-i.invariant c.loop-i-test.true
-    c.piece_end-to.ensures c.span_of.ensures
+loop-i-preserved c =
+    let s = c.in-Some.ensures.steps in
+    let left = ap (map span_of_hole) s.0 in
+    rw (s.1, s.2, c.span_of.ensures) (remaining_turn _ _ _ _ (span_of_hole (rows c.in-Some.hole.now)) (map span_of_hole (loops_left c.next.new.self.iter)) c.loop-i.invariant left)
 
 pub returns : goal.returns
-returns c = covering_end _ _ _ _ _ _ c.loop-i.invariant c.loop-i-test.false
+returns c = remaining_end _ _ _ _ c.loop-i.invariant (ap (map span_of_hole) c.in-None.ensures.steps.0.0)
