@@ -1,2 +1,3 @@
 pub mod Picking
+pub mod Later
 pub mod Others

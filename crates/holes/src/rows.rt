@@ -10,41 +10,20 @@ ghost use Rattle.holes.specs.Others.{others};
 use crate::picked::is_ring;
 use tables::copies::copy_rows;
 use tables::corners::{Corner, count};
-use tables::slices::{has_room, piece_end};
-
-// Where a loop from row `from` to `to`, unless it is a ring, ends behind `here`.
-fn behind(here: usize, from: usize, to: usize, ring: bool) -> usize
-    requires { (from ≤ to) × (here + (to - from) < 2 ^ 64) }
-    ensures { result ≡ cond ring here (here + (to - from)) }
-{
-    if ring {
-        return here;
-    }
-    here + (to - from)
-}
+use tables::loops::Loops;
+use tables::slices::has_room;
 
 // How many rows the holes have.
 pub fn count_rows(t: &[Corner], counts: &[usize], a: usize, b: usize) -> usize
     ensures { (result ≡ length (flatten (others a b (pieces counts.now (rows t.now))))) × (result ≤ length (rows t.now)) }
 {
-    let n = count(t);
     let mut sum = 0;
-    let mut from = 0;
-    for (i, points) in counts.iter().enumerate() {
-        let to = piece_end(n, from, *points);
-        sum = behind(sum, from, to, is_ring(i, a, b));
-        from = to;
+    for (i, one) in Loops::new(t, counts).enumerate() {
+        if !is_ring(i, a, b) {
+            sum += one.len();
+        }
     }
     sum
-}
-
-// A loop, unless it is a ring, into out from row `here` on.
-fn pick_one(out: &mut [Corner], here: usize, one: &[Corner], ring: bool)
-    ensures { rows out.new ≡ placed here (cond ring [] (rows one.now)) (rows out.old) }
-{
-    if !ring {
-        copy_rows(out, here, one);
-    }
 }
 
 // The holes' rows, one loop behind the other, into out from row `at` on.
@@ -54,14 +33,11 @@ pub fn pick_holes(out: &mut [Corner], at: usize, t: &[Corner], counts: &[usize],
     if !has_room(count(out), at, count_rows(t, counts, a, b)) {
         return;
     }
-    let n = count(t);
     let mut here = at;
-    let mut from = 0;
-    for (i, points) in counts.iter().enumerate() {
-        let to = piece_end(n, from, *points);
-        let ring = is_ring(i, a, b);
-        pick_one(out, here, &t[from..to], ring);
-        here = behind(here, from, to, ring);
-        from = to;
+    for (i, one) in Loops::new(t, counts).enumerate() {
+        if !is_ring(i, a, b) {
+            copy_rows(out, here, one);
+            here += one.len();
+        }
     }
 }

@@ -1,9 +1,10 @@
-use Prim.Native.Nat.{◌*◌, ◌^◌, ◌<◌}
-use mathlib.Core.Path.{◌≡◌}
-use lib.ListN.{length}
+use Rattle.std.proofs.Common.{◌≡◌, ◌+◌, length}
+use Rattle.lists.specs.Pieces.{pieces}
 use Rattle.tables.specs.Rows.{rows}
-use Rattle.holes.proofs.rows.Laws.{Counting}
+use Rattle.tables.specs.Loops.{loops_left}
+use Rattle.holes.proofs.Later.{later}
 use Rattle.holes.proofs.rows.count_rows.Given as goal
 
 abbrev pub invariant-loop-i : goal.invariant-loop-i
-invariant-loop-i l = (l.n ≡ length (rows l.t)) × ((5 * l.n < 2 ^ 64) × Counting (rows l.t) l.counts l.a l.b l.sum l.from l.i)
+invariant-loop-i l =
+    l.sum + length (later l.a l.b l.i-iterator.count (loops_left l.i-iterator.iter)) ≡ length (later l.a l.b 0 (pieces l.counts (rows l.t)))

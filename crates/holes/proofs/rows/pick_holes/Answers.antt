@@ -1,52 +1,55 @@
-use Rattle.std.proofs.Common.{arith}
+use Rattle.std.proofs.Common.{◌+◌, length, refl, ap, sym, ◌∙◌, arith, rules}
+use borrow.Author.Tests.{leb-true, leb-false}
+use Rattle.lists.proofs.Placed.{placed_short}
+use Rattle.lists.specs.Pieces.{pieces}
+use Rattle.lists.proofs.Pieces.{length-pieces}
+use Rattle.tables.specs.Rows.{rows}
+use Rattle.tables.specs.Loops.{loops_left}
 use Rattle.tables.proofs.Rows.{length-rows}
-use mathlib.Core.Bool.{not}
-use Rattle.std.proofs.Common.{ap}
-use mathlib.Core.Path.{refl, ◌∙◌}
-use Rattle.holes.proofs.rows.Laws.{part_picked, picking, picking_forth, picking_none, picking_turn, picking_end}
+use Rattle.holes.specs.Others.{is_ring}
+use Rattle.holes.proofs.Later.{later, picking-ring, picking_room, picking-hole, picking-end}
 use Rattle.holes.proofs.rows.pick_holes.Goals as goal
 
 pub returns-then-not-has_room : goal.returns-then-not-has_room
-returns-then-not-has_room c = picking_none _ _ _ _ _ _ _ _ _ c.count_rows.ensures.0 c.count.ensures.0 c.has_room.ensures
-    (ap not c.if-not-has_room.true)
+returns-then-not-has_room c =
+    let all = later c.args.a c.args.b 0 (pieces c.args.counts.now (rows c.args.t.now)) in
+    let short = leb-false (c.args.at + c.count_rows.result) c.count.result (sym c.has_room.ensures ∙ c.if-not-has_room.true) in
+    sym (placed_short c.args.at all (rows c.args.out.now) (omega (arith, short, c.count_rows.ensures.0, c.count.ensures.0)))
 
 pub loop-i-init : goal.loop-i-init
-loop-i-init c = (
-  refl,
-  (
-    c.count-n.ensures.0,
-    (
-      c.count-n.ensures.1,
-      picking _ _ _ _ _ _ _ _ _ c.count_rows.ensures.0 c.count.ensures.0
-          c.has_room.ensures (ap not c.if-not-has_room.false),
-    ),
-  ),
-)
+loop-i-init c =
+    let enough = leb-true (c.args.at + c.count_rows.result) c.count.result (sym c.has_room.ensures ∙ c.if-not-has_room.false) in
+    let begin = c.into_iter-i-iterator.ensures.into_iter_gives in
+    let count = ap (λ e. e.count) begin ∙ c.enumerate-i-items.ensures.count in
+    let loops = ap (λ e. loops_left e.iter) begin ∙ ap loops_left c.enumerate-i-items.ensures.source ∙ c.new.ensures in
+    rw (count, loops) (record { is = refl; room = omega (arith, enough, c.count_rows.ensures.0, c.count.ensures.0) })
+
+pub loop-i-init-derived : goal.loop-i-init-derived
+loop-i-init-derived c =
+    let begin = c.into_iter-i-iterator.ensures.into_iter_gives in
+    let count = ap (λ e. e.count) begin ∙ c.enumerate-i-items.ensures.count in
+    let loops = ap (λ e. loops_left e.iter) begin ∙ ap loops_left c.enumerate-i-items.ensures.source ∙ c.new.ensures in
+    let many = ap length loops ∙ length-pieces c.args.counts.now (rows c.args.t.now) in
+    search rules
+
+pub overflow_add-here : goal.overflow_add-here
+overflow_add-here c =
+    let s = c.in-Some.ensures.steps in
+    let hole = ap (is_ring c.args.a c.args.b) (sym s.1) ∙ sym c.is_ring.ensures ∙ c.if-not-is_ring.true in
+    let room = picking_room _ _ _ _ _ _ _ _ _ c.loop-i.invariant s.0 hole in
+    omega (arith, room, length-rows c.in-Some.one.now, length-rows c.loop-i.out)
+
+pub loop-i-preserved-then-not-is_ring : goal.loop-i-preserved-then-not-is_ring
+loop-i-preserved-then-not-is_ring c =
+    let s = c.in-Some.ensures.steps in
+    let hole = ap (is_ring c.args.a c.args.b) (sym s.1) ∙ sym c.is_ring.ensures ∙ c.if-not-is_ring.true in
+    rw (s.2, c.copy_rows.ensures, sym (length-rows c.in-Some.one.now)) (picking-hole _ _ _ _ _ _ _ _ _ c.loop-i.invariant s.0 hole)
 
 pub loop-i-preserved : goal.loop-i-preserved
-loop-i-preserved c = (
-  c.out-1.given ∙ c.loop-i.invariant.0,
-  (
-    c.loop-i.invariant.1.0,
-    (
-      c.loop-i.invariant.1.1.0,
-      picking_turn _ _ _ _ _ _ _ _ _ _ _ _ _ c.loop-i.invariant.1.1.1 c.loop-i-test.true
-          c.loop-i.invariant.1.0 c.piece_end-to.ensures c.is_ring-ring.ensures _ _ (part_picked _ _ _ _ _ _ _ c.pick_one.ensures) c.behind-here.ensures,
-    ),
-  ),
-)
+loop-i-preserved c =
+    let s = c.in-Some.ensures.steps in
+    let ring = ap (is_ring c.args.a c.args.b) (sym s.1) ∙ sym c.is_ring.ensures ∙ c.if-not-is_ring.false in
+    rw s.2 (picking-ring _ _ _ _ _ _ _ _ _ c.loop-i.invariant s.0 ring)
 
 pub returns : goal.returns
-returns c = picking_end _ _ _ _ _ _ _ _ _ _ c.loop-i.invariant.1.1.1 c.loop-i-test.false
-
-pub offset_bounds-t-from : goal.offset_bounds-t-from
-offset_bounds-t-from c =
-    let inv = c.loop-i.invariant in
-    let g = picking_forth _ _ _ _ _ _ _ _ _ _ _ _ _ inv.1.1.1 c.loop-i-test.true inv.1.0 c.piece_end-to.ensures c.is_ring-ring.ensures in
-    omega (arith, g.0, g.1, length-rows c.args.t.now)
-
-pub slice_bounds-pick_one-end : goal.slice_bounds-pick_one-end
-slice_bounds-pick_one-end c =
-    let inv = c.loop-i.invariant in
-    let g = picking_forth _ _ _ _ _ _ _ _ _ _ _ _ _ inv.1.1.1 c.loop-i-test.true inv.1.0 c.piece_end-to.ensures c.is_ring-ring.ensures in
-    omega (arith, g.0, g.1, length-rows c.args.t.now)
+returns c = picking-end _ _ _ _ _ _ _ c.loop-i.invariant c.in-None.ensures.steps.0.0

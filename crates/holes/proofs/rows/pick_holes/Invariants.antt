@@ -1,12 +1,11 @@
-use Prim.Native.Nat.{◌*◌, ◌^◌, ◌<◌}
-use mathlib.Core.Path.{◌≡◌}
-use lib.ListN.{length}
+use Rattle.lists.specs.Pieces.{pieces}
+use Rattle.lists.specs.Placed.{placed}
 use Rattle.tables.specs.Rows.{rows}
-use Rattle.holes.proofs.rows.Laws.{Picking}
+use Rattle.tables.specs.Loops.{loops_left}
+use Rattle.holes.proofs.Later.{later, Picking}
 use Rattle.holes.proofs.rows.pick_holes.Given as goal
 
 abbrev pub invariant-loop-i : goal.invariant-loop-i
 invariant-loop-i l =
-    (length l.out ≡ length l.initial.out) ×
-    ((l.n ≡ length (rows l.t)) × ((5 * l.n < 2 ^ 64) × Picking (rows l.t) l.counts l.a l.b l.at (rows l.initial.out) (rows l.out) l.here
-    l.from l.i))
+    Picking l.a l.b (placed l.at (later l.a l.b 0 (pieces l.counts (rows l.t))) (rows l.initial.out)) (rows l.out) l.here l.i-iterator.count
+    (loops_left l.i-iterator.iter)

@@ -1,8 +1,0 @@
-use Rattle.holes.proofs.rows.Laws.{one-ring, one-hole}
-use Rattle.holes.proofs.rows.pick_one.Goals as goal
-
-pub returns-else-not-ring : goal.returns-else-not-ring
-returns-else-not-ring c = one-ring _ _ _ _ c.if-not-ring.false
-
-pub returns-then-not-ring : goal.returns-then-not-ring
-returns-then-not-ring c = one-hole _ _ _ _ _ c.if-not-ring.true c.copy_rows.ensures
