@@ -15,7 +15,6 @@ use loops::rows::signed_area;
 use surfaces::patch::Patch;
 use tables::corners::Corner;
 use tables::pieces::part_of;
-use tables::slices::shorter;
 
 // How many corners are left, and the area they enclose in u and v.
 #[derive(Clone, Copy)]
@@ -99,7 +98,8 @@ pub fn close_strip(
 {
     let inner = inner_between(lower, upper, patch);
     let n = strip_rows(lower, upper, inner);
-    if shorter(2 * shorter(heights.len(), wall.len()), out.len()) < n {
+    let walls = 2 * heights.len().min(wall.len());
+    if walls.min(out.len()) < n {
         return Err(TooMany { corners: n });
     }
     raise_wall(heights, wall, lower, upper, patch);

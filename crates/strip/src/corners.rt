@@ -7,7 +7,6 @@ ghost use Rattle.strip.specs.Count.{capped, strip_count};
 
 use super::count::strip_count;
 use tables::corners::{Corner, corner_at, u_at};
-use tables::slices::shorter;
 
 // How many corners the strip has before its repeats are dropped, with `inner` of them in each wall;
 // usize::MAX where there are more.
@@ -16,7 +15,7 @@ pub fn strip_rows(lower: &[Corner], upper: &[Corner], inner: usize) -> usize
 {
     let n = lower.len();
     let m = upper.len();
-    if shorter(n, m) == 0 {
+    if n.min(m) == 0 {
         return n + m;
     }
     strip_count(n, m, inner)
@@ -79,7 +78,7 @@ pub fn strip_corner(
         return lower[i];
     }
     let past = i - n;
-    if shorter(n, upper.len()) == 0 {
+    if n.min(upper.len()) == 0 {
         return from_end(upper, past);
     }
     let end = u_at(lower, 0) + period;
