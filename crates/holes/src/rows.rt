@@ -8,9 +8,8 @@ ghost use Rattle.tables.specs.Rows.{rows};
 ghost use Rattle.holes.specs.Others.{others};
 
 use crate::picked::is_ring;
-use tables::copies::copy_rows;
 use tables::corners::{Corner, count};
-use tables::slices::{has_room, piece_end};
+use tables::slices::{copy_into, has_room, piece_end};
 
 // Where a loop from row `from` to `to`, unless it is a ring, ends behind `here`.
 fn behind(here: usize, from: usize, to: usize, ring: bool) -> usize
@@ -43,7 +42,7 @@ fn pick_one(out: &mut [Corner], here: usize, one: &[Corner], ring: bool)
     ensures { rows out.new ≡ placed here (cond ring [] (rows one.now)) (rows out.old) }
 {
     if !ring {
-        copy_rows(out, here, one);
+        copy_into(out, here, one);
     }
 }
 

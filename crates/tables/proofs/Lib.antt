@@ -1,4 +1,5 @@
 pub mod Rows
 pub mod PartRows
 pub mod Unless
+pub mod Steps
 pub mod CornersFrom
