@@ -8,7 +8,7 @@ ghost use Rattle.tables.specs.Rows.{rows};
 ghost use Rattle.holes.specs.Others.{others};
 
 use crate::picked::is_ring;
-use tables::corners::{Corner, count};
+use tables::corners::Corner;
 use tables::slices::{copy_into, has_room, piece_end};
 
 // Where a loop from row `from` to `to`, unless it is a ring, ends behind `here`.
@@ -23,10 +23,11 @@ fn behind(here: usize, from: usize, to: usize, ring: bool) -> usize
 }
 
 // How many rows the holes have.
+#[tactic(auto, using(tables::proofs::Steps::row_steps))]
 pub fn count_rows(t: &[Corner], counts: &[usize], a: usize, b: usize) -> usize
     ensures { (result ≡ length (flatten (others a b (pieces counts.now (rows t.now))))) × (result ≤ length (rows t.now)) }
 {
-    let n = count(t);
+    let n = t.len();
     let mut sum = 0;
     let mut from = 0;
     for (i, points) in counts.iter().enumerate() {
@@ -47,13 +48,14 @@ fn pick_one(out: &mut [Corner], here: usize, one: &[Corner], ring: bool)
 }
 
 // The holes' rows, one loop behind the other, into out from row `at` on.
+#[tactic(auto, using(tables::proofs::Steps::row_steps))]
 pub fn pick_holes(out: &mut [Corner], at: usize, t: &[Corner], counts: &[usize], a: usize, b: usize)
     ensures { rows out.new ≡ placed at (flatten (others a b (pieces counts.now (rows t.now)))) (rows out.old) }
 {
-    if !has_room(count(out), at, count_rows(t, counts, a, b)) {
+    if !has_room(out.len(), at, count_rows(t, counts, a, b)) {
         return;
     }
-    let n = count(t);
+    let n = t.len();
     let mut here = at;
     let mut from = 0;
     for (i, points) in counts.iter().enumerate() {

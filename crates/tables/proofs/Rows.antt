@@ -82,16 +82,9 @@ module _ (t : List Held) (i : ℕ) (h : i < length t) where
   pub v-at-place : get_or (vs (rows t)) i nan ≡ (get_or t i absent).v
   v-at-place = v-at t i ∙ ap (λ (c : Corner Vec3). c.v) (row_at t i h)
 
-  -- its u anew
-  pub rows-set-u : (u' : Float) → rows (set t i (record { u = u'; v = (get_or t i absent).v; at = (get_or t i absent).at })) ≡ set (rows t) i (move_u (λ _. u') (get_or (rows t) i none))
-  rows-set-u u' = rows-set t i _ ∙ ap (λ (c : Corner Vec3). set (rows t) i (move_u (λ _. u') c)) (sym (row_at t i h))
-
 module _ (t : List Held) (i : ℕ) (h : length t ≤ i) where
   pub u-at-past : get_or (us (rows t)) i nan ≡ nan
   u-at-past = u-at t i ∙ ap (λ (c : Corner Vec3). c.u) (row-past t i h)
-
-  pub v-at-past : get_or (vs (rows t)) i nan ≡ nan
-  v-at-past = v-at t i ∙ ap (λ (c : Corner Vec3). c.v) (row-past t i h)
 
 -- ---- what is done to each
 
@@ -108,9 +101,6 @@ pub rows-each-v : (f : Float → Float) (t : List Held) → rows (map (held_v f)
 unfolding rows
 rows-each-v f [] = refl
 rows-each-v f (c ∷ t) = ap (λ (l : Corners Vec3). move_v f (corner_of c) ∷ l) (rows-each-v f t)
-
-pub put-u : (f : Float → Float) (c : Held) (u' : Float) → u' ≡ f c.u → record { u = u'; v = c.v; at = c.at } ≡ held_u f c
-put-u f c u' e = ap (λ (w : Float). record { u = w; v = c.v; at = c.at }) e
 
 pub put-v : (f : Float → Float) (c : Held) (v' : Float) → v' ≡ f c.v → record { u = c.u; v = v'; at = c.at } ≡ held_v f c
 put-v f c v' e = ap (λ (w : Float). record { u = c.u; v = w; at = c.at }) e

@@ -1,4 +1,4 @@
-use Rattle.std.proofs.Common.{arith}
+use Rattle.std.proofs.Common.{arith, sym, rules}
 use Rattle.tables.proofs.Rows.{length-rows}
 use mathlib.Core.Bool.{not}
 use Rattle.std.proofs.Common.{ap}
@@ -7,17 +7,17 @@ use Rattle.holes.proofs.rows.Laws.{part_picked, picking, picking_forth, picking_
 use Rattle.holes.proofs.rows.pick_holes.Goals as goal
 
 pub returns-then-not-has_room : goal.returns-then-not-has_room
-returns-then-not-has_room c = picking_none _ _ _ _ _ _ _ _ _ c.count_rows.ensures.0 c.count.ensures.0 c.has_room.ensures
+returns-then-not-has_room c = picking_none _ _ _ _ _ _ _ _ _ c.count_rows.ensures.0 (sym (length-rows _)) c.has_room.ensures
     (ap not c.if-not-has_room.true)
 
 pub loop-i-init : goal.loop-i-init
 loop-i-init c = (
   refl,
   (
-    c.count-n.ensures.0,
+    sym (length-rows _),
     (
-      c.count-n.ensures.1,
-      picking _ _ _ _ _ _ _ _ _ c.count_rows.ensures.0 c.count.ensures.0
+      search rules,
+      picking _ _ _ _ _ _ _ _ _ c.count_rows.ensures.0 (sym (length-rows _))
           c.has_room.ensures (ap not c.if-not-has_room.false),
     ),
   ),
