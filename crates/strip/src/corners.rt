@@ -6,7 +6,7 @@ ghost use Rattle.strip.specs.Corners.{at_u, far_side, strip_with};
 ghost use Rattle.strip.specs.Count.{capped, strip_count};
 
 use super::count::strip_count;
-use tables::corners::{Corner, corner_at, u_at};
+use tables::corners::{Corner, corner_at};
 
 // How many corners the strip has before its repeats are dropped, with `inner` of them in each wall;
 // usize::MAX where there are more.
@@ -81,9 +81,10 @@ pub fn strip_corner(
     if n.min(upper.len()) == 0 {
         return from_end(upper, past);
     }
-    let end = u_at(lower, 0) + period;
+    let first = corner_at(lower, 0);
+    let end = first.u + period;
     if past == 0 {
-        return moved_to(corner_at(lower, 0), end);
+        return moved_to(first, end);
     }
     far_corner(upper, wall, end, past - 1)
 }

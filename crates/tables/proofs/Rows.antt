@@ -1,7 +1,7 @@
 -- The rows of a table: how many they are, those of a part and of tables one behind the other, and what is read, stored and moved there.
 use mathlib.Core.List as List
-use Rattle.std.proofs.Common.{◌≡◌, ℕ, ◌-◌, ◌≤◌, ◌<◌, List, [], ◌∷◌, ◌++◌, length, get_or, set, take, drop, map, refl, sym, ap, ◌∙◌, arith}
-use Rattle.std.proofs.lemmas.List.{length-map, map-append, map-set, take-map, drop-map, get_or_past, set_past}
+use Rattle.std.proofs.Common.{◌≡◌, ℕ, ◌-◌, ◌<◌, List, [], ◌∷◌, ◌++◌, length, get_or, set, take, drop, map, refl, sym, ap, ◌∙◌}
+use Rattle.std.proofs.lemmas.List.{length-map, map-append, map-set, take-map, drop-map}
 use Rattle.std.proofs.Math.ListN.{get_or-map}
 use Rattle.std.specs.Prelude.{Float}
 use Rattle.std.specs.Float.{nan}
@@ -56,16 +56,13 @@ pub row_at : (t : List Held) (i : ℕ) → i < length t → get_or (rows t) i no
 unfolding rows
 row_at t i h = get_d_map corner_of t i none absent h
 
-pub row-past : (t : List Held) (i : ℕ) → length t ≤ i → get_or (rows t) i none ≡ none
+pub row_or : (t : List Held) (i : ℕ) (past : Held) → corner_of past ≡ none → corner_of (get_or t i past) ≡ get_or (rows t) i none
 unfolding rows
-row-past t i h = get_or_past (rows t) i none (let l = length-rows t in omega arith)
+row_or t i past e = sym (get_or-map corner_of t i past) ∙ ap (get_or (rows t) i) e
 
 pub rows-set : (t : List Held) (i : ℕ) (c : Held) → rows (set t i c) ≡ set (rows t) i (corner_of c)
 unfolding rows
 rows-set t i c = map-set corner_of t i c
-
-pub rows-set_past : (t : List Held) (i : ℕ) (c : Corner Vec3) → length t ≤ i → rows t ≡ set (rows t) i c
-rows-set_past t i c h = sym (set_past (rows t) i c (let l = length-rows t in omega arith))
 
 -- ---- its u and its v
 
@@ -81,10 +78,6 @@ module _ (t : List Held) (i : ℕ) (h : i < length t) where
 
   pub v-at-place : get_or (vs (rows t)) i nan ≡ (get_or t i absent).v
   v-at-place = v-at t i ∙ ap (λ (c : Corner Vec3). c.v) (row_at t i h)
-
-module _ (t : List Held) (i : ℕ) (h : length t ≤ i) where
-  pub u-at-past : get_or (us (rows t)) i nan ≡ nan
-  u-at-past = u-at t i ∙ ap (λ (c : Corner Vec3). c.u) (row-past t i h)
 
 -- ---- what is done to each
 

@@ -1,7 +1,5 @@
 // One corner of a table, by value.
-ghost use Rattle.std.specs.Prelude.{◌≡◌, get_or, set};
-ghost use Rattle.std.specs.Float.{nan};
-ghost use Rattle.tables.specs.Corners.{us};
+ghost use Rattle.std.specs.Prelude.{◌≡◌, get_or};
 ghost use Rattle.tables.specs.Rows.{rows, corner_of, none};
 
 use numbers::math::Vec3;
@@ -46,26 +44,5 @@ fn no_corner() -> Corner
 pub fn corner_at(t: &[Corner], i: usize) -> Corner
     ensures { corner_of result ≡ get_or (rows t.now) i none }
 {
-    if i < t.len() {
-        return t[i];
-    }
-    no_corner()
-}
-
-// Past the last row nothing is stored.
-pub fn put_corner(t: &mut [Corner], i: usize, c: Corner)
-    ensures { rows t.new ≡ set (rows t.old) i (corner_of c) }
-{
-    if i < t.len() {
-        t[i] = c;
-    }
-}
-
-pub fn u_at(t: &[Corner], i: usize) -> f64
-    ensures { result ≡ get_or (us (rows t.now)) i nan }
-{
-    if i < t.len() {
-        return t[i].u;
-    }
-    0.0 / 0.0
+    t.get(i).copied().unwrap_or(no_corner())
 }
