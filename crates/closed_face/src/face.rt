@@ -15,14 +15,14 @@ use closed_region::holes::rephase_holes;
 use closed_region::region::closed_region;
 use tables::corners::Corner;
 use tables::pieces::loop_of;
-use tables::slices::{part, piece_end, shorter};
+use tables::slices::{part, piece_end};
 
 // How many rows the first k loops have: where loop k begins.
 fn begin_of(t: &[Corner], counts: &[usize], k: usize) -> usize
     ensures { (result ≡ length (flatten (take k (pieces counts.now (rows t.now))))) × (result ≤ length t.now) }
 {
     let mut from = 0;
-    for i in 0..shorter(counts.len(), k) {
+    for i in 0..counts.len().min(k) {
         from = piece_end(t.len(), from, counts[i]);
     }
     from

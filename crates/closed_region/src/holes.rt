@@ -15,7 +15,7 @@ use super::rephase::{Branch, stays};
 use loops::rows::signed_area;
 use numbers::rounding::round;
 use tables::corners::Corner;
-use tables::moves::{Move, move_u, move_v};
+use tables::moves::{Move, move_v, slide};
 use tables::pieces::loop_of;
 use tables::slices::{at, piece_end, put};
 
@@ -44,11 +44,12 @@ fn branch_of(t: &[Corner], u: Option<f64>, v: Option<f64>) -> Branch
 }
 
 // Moves a hole, and answers its area.
+#[tactic(auto, using(tables::proofs::Steps::row_steps))]
 fn move_hole(t: &mut [Corner], su: f64, sv: f64) -> f64
     ensures value { result ≡ area_in (shifted su sv (rows t.old)) }
     ensures t_after { rows t.new ≡ shifted su sv (rows t.old) }
 {
-    move_u(t, Move::Up(su));
+    slide(t, Move::Up(su));
     move_v(t, Move::Up(sv));
     signed_area(t)
 }

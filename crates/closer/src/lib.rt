@@ -14,7 +14,6 @@ use records::limits::version1;
 use records::refusal::Refusal;
 use results::write_result;
 use tables::corners::{Corner, ORIGIN};
-use tables::slices::shorter;
 
 pub mod entry;
 
@@ -29,7 +28,7 @@ fn write_loops(
 ) -> usize
     ensures { WrittenBytes face.path face.loops counts.now areas.now t.now res.old res.new result }
 {
-    let l = shorter(face.loops, counts.len());
+    let l = face.loops.min(counts.len());
     write_result(face.path, &counts[..l], areas, t, res).unwrap_or(0)
 }
 

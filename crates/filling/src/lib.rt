@@ -42,8 +42,8 @@ use seam::gap::Span;
 use strip::closing::{Closed, TooMany};
 use surfaces::patch::Patch;
 use surfaces::surface::Surface;
-use tables::copies::copy_rows;
 use tables::corners::{Corner, ORIGIN};
+use tables::slices::copy_into;
 use wrapped_region::order::goes_with;
 use wrapped_region::ordered::close_ordered;
 
@@ -217,7 +217,7 @@ fn fill_band(
     let closing = band_of(corners, given, loops, a, b, patch, sense, &mut holes, t);
     match closing {
         Ok(closed) => {
-            copy_rows(t, closed.count, &holes);
+            copy_into(t, closed.count, &holes);
             counts[0] = closed.count;
             pick(counts, 1, given, a, b);
             areas[0] = closed.area;

@@ -14,8 +14,8 @@ use loops::rows::signed_area;
 use numbers::math::Vec2;
 use surfaces::patch::Patch;
 use surfaces::steps::Axis;
-use tables::corners::{Corner, put_corner};
-use tables::slices::part;
+use tables::corners::Corner;
+use tables::slices::{part, put};
 
 // The rung of number i of a side.
 fn rung_of(rungs: &[f64], back: bool, i: usize) -> f64
@@ -65,7 +65,7 @@ fn put_side(
 {
     for i in 0..rungs.len().saturating_sub(1) {
         let x = rung_of(rungs, back, i);
-        put_corner(t, start + i, corner_along(patch, axis, fixed, x));
+        put(t, start + i, corner_along(patch, axis, fixed, x));
     }
 }
 

@@ -8,10 +8,9 @@ ghost use Rattle.tables.specs.Rows.{rows};
 ghost use Rattle.holes.specs.Others.{others};
 
 use crate::picked::is_ring;
-use tables::copies::copy_rows;
-use tables::corners::{Corner, count};
+use tables::corners::Corner;
 use tables::loops::Loops;
-use tables::slices::has_room;
+use tables::slices::{copy_into, has_room};
 
 // How many rows the holes have.
 pub fn count_rows(t: &[Corner], counts: &[usize], a: usize, b: usize) -> usize
@@ -30,13 +29,13 @@ pub fn count_rows(t: &[Corner], counts: &[usize], a: usize, b: usize) -> usize
 pub fn pick_holes(out: &mut [Corner], at: usize, t: &[Corner], counts: &[usize], a: usize, b: usize)
     ensures { rows out.new ≡ placed at (flatten (others a b (pieces counts.now (rows t.now)))) (rows out.old) }
 {
-    if !has_room(count(out), at, count_rows(t, counts, a, b)) {
+    if !has_room(out.len(), at, count_rows(t, counts, a, b)) {
         return;
     }
     let mut here = at;
     for (i, one) in Loops::new(t, counts).enumerate() {
         if !is_ring(i, a, b) {
-            copy_rows(out, here, one);
+            copy_into(out, here, one);
             here += one.len();
         }
     }

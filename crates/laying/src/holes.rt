@@ -12,7 +12,7 @@ use rings::table_choices::{greatest, least, straddles, strip_shift};
 use seam::gap::Span;
 use tables::corners::Corner;
 use tables::loops::Loops;
-use tables::moves::{Move, move_unless_zero};
+use tables::moves::{Move, slide_unless_zero};
 use tables::slices::piece_end;
 
 // One hole, by whole periods.
@@ -20,7 +20,7 @@ fn onto(t: &mut [Corner], lo: f64, period: f64)
     ensures { rows t.new ≡ onto period lo (rows t.old) }
 {
     let step = strip_shift(t, lo, period);
-    move_unless_zero(t, step, Move::Down(step));
+    slide_unless_zero(t, step, Move::Down(step));
 }
 
 // Every hole onto the strip that begins at lo.

@@ -12,7 +12,7 @@ use loops::branch::branch_shift;
 use rings::choices::first_of;
 use rings::table_choices::least_u;
 use tables::corners::Corner;
-use tables::moves::{Move, move_u, reverse_rows};
+use tables::moves::{Move, slide};
 
 // A ring by whole periods toward the least u.
 pub fn shift(t: &mut [Corner], least: f64, period: f64)
@@ -20,7 +20,7 @@ pub fn shift(t: &mut [Corner], least: f64, period: f64)
     ensures lands_near { LandsNear (first_of (us (rows t.old))) least period (first_of (us (rows t.new))) }
 {
     let step = branch_shift(first_of(t), least, period);
-    move_u(t, Move::Down(step));
+    slide(t, Move::Down(step));
 }
 
 // A ring of negative travel is read backward.
@@ -28,7 +28,7 @@ fn rise(t: &mut [Corner], falls: bool)
     ensures { rows t.new ≡ rising (loop_in t.old falls) }
 {
     if falls {
-        reverse_rows(t);
+        t.reverse();
     }
 }
 

@@ -5,15 +5,15 @@ ghost use Rattle.loop_records.specs.Record.{no_loop};
 ghost use Rattle.loop_records.specs.Ring.{taken};
 
 use super::{LoopRecord, no_loop};
-use tables::copies::copy_rows;
 use tables::corners::Corner;
-use tables::pieces::part_of;
+use tables::slices::{copy_into, part};
 
 // The rows from `start` on, `count` of them, into the front of dst.
+#[tactic(auto, using(tables::proofs::Steps::row_steps))]
 fn copy_ring(dst: &mut [Corner], t: &[Corner], start: usize, count: usize)
     ensures { rows dst.new ≡ taken start count (rows t.now) (rows dst.old) }
 {
-    copy_rows(dst, 0, part_of(t, start, count));
+    copy_into(dst, 0, part(t, start, count));
 }
 
 // Loop i into the front of dst, and its record. Past the end there is no loop, and its record is that

@@ -9,7 +9,7 @@ ghost use Rattle.records.specs.Lent.{front, counts_there, CountsRead, HeadRead, 
 
 use super::{HEAD_REALS, HEADER_SIZE, count_at, loops, points, real_at};
 use numbers::math::Vec3;
-use tables::corners::{Corner, count};
+use tables::corners::Corner;
 
 // The byte at i, 0 past the end.
 fn byte_at(s: &[u8], i: usize) -> u8
@@ -113,6 +113,7 @@ fn fill_corners(face: &[u8], n: usize, t: &mut [Corner])
 }
 
 // The corners of all loops in file order, a row each.
+#[tactic(auto, using(tables::proofs::Steps::row_steps))]
 pub fn read_corners(face: &[u8], t: &mut [Corner]) -> Option<usize>
     ensures { CornersRead face.now t.old t.new result }
 {
@@ -123,7 +124,7 @@ pub fn read_corners(face: &[u8], t: &mut [Corner]) -> Option<usize>
     if face.len() < HEADER_SIZE + 2 * loops(face) + 8 * (HEAD_REALS + 5 * n) {
         return None;
     }
-    if count(t) < n {
+    if t.len() < n {
         return None;
     }
     fill_corners(face, n, t);

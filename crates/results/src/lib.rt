@@ -13,7 +13,7 @@ ghost use Rattle.tables.specs.Rows.{rows};
 ghost use Rattle.results.specs.Written.{path_of, table_result, size_of, Fitting, WrittenTo};
 
 use numbers::bits;
-use tables::corners::{Corner, count};
+use tables::corners::Corner;
 
 #[derive(Clone, Copy)]
 pub enum Path {
@@ -150,7 +150,7 @@ pub fn write_result(
     if areas.len() < counts.len() {
         return None;
     }
-    if count(t) < size.corners {
+    if t.len() < size.corners {
         return None;
     }
     put_result(out, u8::from(path), counts, areas, size.corners, t);

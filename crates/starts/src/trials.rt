@@ -11,7 +11,7 @@ use crate::later_for;
 use rings::choices::{begins_backward, first_of, serve};
 use rings::moves::begin_ring_at;
 use tables::copies::us_into;
-use tables::corners::{Corner, count};
+use tables::corners::Corner;
 use tables::moves::Move;
 
 // The chosen start, how many were tried, and whether one served. Where none did, the start is the
@@ -41,30 +41,33 @@ fn later_into(u: &mut [f64], later: &[Corner], cut: f64, period: f64)
     later_for(u, cut, period);
 }
 
+#[tactic(auto, using(tables::proofs::Steps::row_steps))]
 fn try_first(trial: &mut [f64], first: &[Corner], k: usize, period: f64)
     requires { length (rows first.now) ≤ length trial.old }
     ensures { trial.new ≡ placed 0 (us (first_for period k (rows first.now))) trial.old }
 {
-    let end = count(first);
+    let end = first.len();
     first_into(&mut trial[0..end], first, k, period);
 }
 
+#[tactic(auto, using(tables::proofs::Steps::row_steps))]
 fn try_later(trial: &mut [f64], from: usize, later: &[Corner], cut: f64, period: f64)
     requires { from + length (rows later.now) ≤ length trial.old }
     ensures { trial.new ≡ placed from (us (later_for period cut (rows later.now))) trial.old }
 {
-    let end = from + count(later);
+    let end = from + later.len();
     later_into(&mut trial[from..end], later, cut, period);
 }
 
 // Whether the start k serves. `trial` is scratch: it holds the u of this trial, or a part of them,
 // afterwards.
+#[tactic(auto, using(tables::proofs::Steps::row_steps))]
 fn serves(trial: &mut [f64], first: &[Corner], later: &[Corner], k: usize, period: f64) -> bool
     requires { length (rows first.now) + length (rows later.now) ≤ length trial.old }
     ensures { result ≡ serves period (rows first.now) (rows later.now) k }
 {
-    let n = count(first);
-    let end = n + count(later);
+    let n = first.len();
+    let end = n + later.len();
     try_first(trial, first, k, period);
     if begins_backward(&trial[0..n]) {
         return false;
@@ -92,10 +95,11 @@ fn first_serving(trial: &mut [f64], first: &[Corner], later: &[Corner], period: 
 
 // Starts are tried from 0 on copies of the u in `trial`, which is scratch. Where it is too short for
 // both rings, none is tried.
+#[tactic(auto, using(tables::proofs::Steps::row_steps))]
 pub fn search_tables(trial: &mut [f64], first: &[Corner], later: &[Corner], period: f64) -> Search
     ensures { result ≡ search_within period (length trial.old) (rows first.now) (rows later.now) }
 {
-    if trial.len() < count(first) + count(later) {
+    if trial.len() < first.len() + later.len() {
         return Search {
             start: 0,
             tried: 0,

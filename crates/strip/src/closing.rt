@@ -14,8 +14,7 @@ use super::walls::{inner_between, raise_wall};
 use loops::rows::signed_area;
 use surfaces::patch::Patch;
 use tables::corners::Corner;
-use tables::pieces::part_of;
-use tables::slices::shorter;
+use tables::slices::part;
 
 // How many corners are left, and the area they enclose in u and v.
 #[derive(Clone, Copy)]
@@ -77,8 +76,8 @@ fn close_rows(
     ensures out_after { rows out.new ≡ placed 0 (drop_successive same_at keep (strip_with period (rows lower.now) (rows upper.now) (rows wall.now))) (rows out.old) }
 {
     let m = keep_successive(lower, upper, wall, period, n, out);
-    let count = trim(part_of(out, 0, m));
-    let area = signed_area(part_of(out, 0, count));
+    let count = trim(part(out, 0, m));
+    let area = signed_area(part(out, 0, count));
     Closed { count, area }
 }
 
@@ -99,9 +98,10 @@ pub fn close_strip(
 {
     let inner = inner_between(lower, upper, patch);
     let n = strip_rows(lower, upper, inner);
-    if shorter(2 * shorter(heights.len(), wall.len()), out.len()) < n {
+    let walls = 2 * heights.len().min(wall.len());
+    if walls.min(out.len()) < n {
         return Err(TooMany { corners: n });
     }
     raise_wall(heights, wall, lower, upper, patch);
-    Ok(close_rows(lower, upper, part_of(wall, 0, inner), period, n, out))
+    Ok(close_rows(lower, upper, part(wall, 0, inner), period, n, out))
 }

@@ -6,8 +6,7 @@ ghost use Rattle.strip.specs.Corners.{at_u, far_side, strip_with};
 ghost use Rattle.strip.specs.Count.{capped, strip_count};
 
 use super::count::strip_count;
-use tables::corners::{Corner, corner_at, u_at};
-use tables::slices::shorter;
+use tables::corners::{Corner, corner_at};
 
 // How many corners the strip has before its repeats are dropped, with `inner` of them in each wall;
 // usize::MAX where there are more.
@@ -16,7 +15,7 @@ pub fn strip_rows(lower: &[Corner], upper: &[Corner], inner: usize) -> usize
 {
     let n = lower.len();
     let m = upper.len();
-    if shorter(n, m) == 0 {
+    if n.min(m) == 0 {
         return n + m;
     }
     strip_count(n, m, inner)
@@ -79,12 +78,13 @@ pub fn strip_corner(
         return lower[i];
     }
     let past = i - n;
-    if shorter(n, upper.len()) == 0 {
+    if n.min(upper.len()) == 0 {
         return from_end(upper, past);
     }
-    let end = u_at(lower, 0) + period;
+    let first = corner_at(lower, 0);
+    let end = first.u + period;
     if past == 0 {
-        return moved_to(corner_at(lower, 0), end);
+        return moved_to(first, end);
     }
     far_corner(upper, wall, end, past - 1)
 }

@@ -1,5 +1,6 @@
 pub mod Rows
 pub mod PartRows
 pub mod Unless
+pub mod Steps
 pub mod CornersFrom
 pub mod FirstLoop

@@ -1,7 +1,7 @@
 -- The rows of a table: how many they are, those of a part and of tables one behind the other, and what is read, stored and moved there.
 use mathlib.Core.List as List
-use Rattle.std.proofs.Common.{◌≡◌, ℕ, ◌-◌, ◌≤◌, ◌<◌, List, [], ◌∷◌, ◌++◌, length, get_or, set, take, drop, map, refl, sym, ap, ◌∙◌, arith}
-use Rattle.std.proofs.lemmas.List.{length-map, map-append, map-set, take-map, drop-map, get_or_past, set_past}
+use Rattle.std.proofs.Common.{◌≡◌, ℕ, ◌-◌, ◌<◌, List, [], ◌∷◌, ◌++◌, length, get_or, set, take, drop, map, refl, sym, ap, ◌∙◌}
+use Rattle.std.proofs.lemmas.List.{length-map, map-append, map-set, take-map, drop-map}
 use Rattle.std.proofs.Math.ListN.{get_or-map}
 use Rattle.std.specs.Prelude.{Float}
 use Rattle.std.specs.Float.{nan}
@@ -56,16 +56,13 @@ pub row_at : (t : List Held) (i : ℕ) → i < length t → get_or (rows t) i no
 unfolding rows
 row_at t i h = get_d_map corner_of t i none absent h
 
-pub row-past : (t : List Held) (i : ℕ) → length t ≤ i → get_or (rows t) i none ≡ none
+pub row_or : (t : List Held) (i : ℕ) (past : Held) → corner_of past ≡ none → corner_of (get_or t i past) ≡ get_or (rows t) i none
 unfolding rows
-row-past t i h = get_or_past (rows t) i none (let l = length-rows t in omega arith)
+row_or t i past e = sym (get_or-map corner_of t i past) ∙ ap (get_or (rows t) i) e
 
 pub rows-set : (t : List Held) (i : ℕ) (c : Held) → rows (set t i c) ≡ set (rows t) i (corner_of c)
 unfolding rows
 rows-set t i c = map-set corner_of t i c
-
-pub rows-set_past : (t : List Held) (i : ℕ) (c : Corner Vec3) → length t ≤ i → rows t ≡ set (rows t) i c
-rows-set_past t i c h = sym (set_past (rows t) i c (let l = length-rows t in omega arith))
 
 -- ---- its u and its v
 
@@ -82,17 +79,6 @@ module _ (t : List Held) (i : ℕ) (h : i < length t) where
   pub v-at-place : get_or (vs (rows t)) i nan ≡ (get_or t i absent).v
   v-at-place = v-at t i ∙ ap (λ (c : Corner Vec3). c.v) (row_at t i h)
 
-  -- its u anew
-  pub rows-set-u : (u' : Float) → rows (set t i (record { u = u'; v = (get_or t i absent).v; at = (get_or t i absent).at })) ≡ set (rows t) i (move_u (λ _. u') (get_or (rows t) i none))
-  rows-set-u u' = rows-set t i _ ∙ ap (λ (c : Corner Vec3). set (rows t) i (move_u (λ _. u') c)) (sym (row_at t i h))
-
-module _ (t : List Held) (i : ℕ) (h : length t ≤ i) where
-  pub u-at-past : get_or (us (rows t)) i nan ≡ nan
-  u-at-past = u-at t i ∙ ap (λ (c : Corner Vec3). c.u) (row-past t i h)
-
-  pub v-at-past : get_or (vs (rows t)) i nan ≡ nan
-  v-at-past = v-at t i ∙ ap (λ (c : Corner Vec3). c.v) (row-past t i h)
-
 -- ---- what is done to each
 
 -- a corner's v moved, as the code holds it
@@ -108,9 +94,6 @@ pub rows-each-v : (f : Float → Float) (t : List Held) → rows (map (held_v f)
 unfolding rows
 rows-each-v f [] = refl
 rows-each-v f (c ∷ t) = ap (λ (l : Corners Vec3). move_v f (corner_of c) ∷ l) (rows-each-v f t)
-
-pub put-u : (f : Float → Float) (c : Held) (u' : Float) → u' ≡ f c.u → record { u = u'; v = c.v; at = c.at } ≡ held_u f c
-put-u f c u' e = ap (λ (w : Float). record { u = w; v = c.v; at = c.at }) e
 
 pub put-v : (f : Float → Float) (c : Held) (v' : Float) → v' ≡ f c.v → record { u = c.u; v = v'; at = c.at } ≡ held_v f c
 put-v f c v' e = ap (λ (w : Float). record { u = c.u; v = w; at = c.at }) e

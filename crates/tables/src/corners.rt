@@ -1,7 +1,5 @@
 // One corner of a table, by value.
-ghost use Rattle.std.specs.Prelude.{◌≡◌, ◌*◌, ◌^◌, ◌<◌, length, get_or, set};
-ghost use Rattle.std.specs.Float.{nan};
-ghost use Rattle.tables.specs.Corners.{us, vs, move_u};
+ghost use Rattle.std.specs.Prelude.{◌≡◌, get_or};
 ghost use Rattle.tables.specs.Rows.{rows, corner_of, none};
 
 use numbers::math::Vec3;
@@ -42,55 +40,9 @@ fn no_corner() -> Corner
     }
 }
 
-// How many rows there are. That their reals can be counted keeps sums of places in reach.
-pub fn count(t: &[Corner]) -> usize
-    ensures { (result ≡ length (rows t.now)) × (5 * result < 2 ^ 64) }
-{
-    t.len()
-}
-
 // Past the last row all five are NaN.
 pub fn corner_at(t: &[Corner], i: usize) -> Corner
     ensures { corner_of result ≡ get_or (rows t.now) i none }
 {
-    if i < t.len() {
-        return t[i];
-    }
-    no_corner()
-}
-
-// Past the last row nothing is stored.
-pub fn put_corner(t: &mut [Corner], i: usize, c: Corner)
-    ensures { rows t.new ≡ set (rows t.old) i (corner_of c) }
-{
-    if i < t.len() {
-        t[i] = c;
-    }
-}
-
-pub fn u_at(t: &[Corner], i: usize) -> f64
-    ensures { result ≡ get_or (us (rows t.now)) i nan }
-{
-    if i < t.len() {
-        return t[i].u;
-    }
-    0.0 / 0.0
-}
-
-pub fn v_at(t: &[Corner], i: usize) -> f64
-    ensures { result ≡ get_or (vs (rows t.now)) i nan }
-{
-    if i < t.len() {
-        return t[i].v;
-    }
-    0.0 / 0.0
-}
-
-// The u of row i anew.
-pub fn put_u(t: &mut [Corner], i: usize, u: f64)
-    ensures { rows t.new ≡ set (rows t.old) i (move_u (λ _. u) (get_or (rows t.old) i none)) }
-{
-    if i < t.len() {
-        t[i].u = u;
-    }
+    t.get(i).copied().unwrap_or(no_corner())
 }

@@ -1,7 +1,6 @@
 // What is done to the rows of a table where they stand.
 ghost use Rattle.std.specs.Prelude.{◌≡◌, map};
-ghost use mathlib.Core.List as List;
-ghost use Rattle.tables.specs.Corners.{move_u, move_v};
+ghost use Rattle.tables.specs.Corners.{move_v};
 ghost use Rattle.tables.specs.Moves.{moved_by, unless_zero};
 ghost use Rattle.tables.specs.Rows.{rows};
 
@@ -43,29 +42,10 @@ pub fn slide_unless_zero<T: RingPoint>(s: &mut [T], step: f64, m: Move)
     }
 }
 
-// The same of a table, in its rows.
-pub fn move_u(t: &mut [Corner], m: Move)
-    ensures { rows t.new ≡ map (move_u (moved_by m)) (rows t.old) }
-{
-    slide(t, m);
-}
-
-pub fn move_unless_zero(t: &mut [Corner], step: f64, m: Move)
-    ensures { rows t.new ≡ unless_zero step (move_u (moved_by m)) (rows t.old) }
-{
-    slide_unless_zero(t, step, m);
-}
-
 pub fn move_v(t: &mut [Corner], m: Move)
     ensures { rows t.new ≡ map (move_v (moved_by m)) (rows t.old) }
 {
     for c in t {
         c.v = moved(c.v, m);
     }
-}
-
-pub fn reverse_rows(t: &mut [Corner])
-    ensures { rows t.new ≡ List.reverse (rows t.old) }
-{
-    t.reverse();
 }

@@ -1,10 +1,10 @@
 // One loop of a face, whose loops stand one behind the other in a table.
-ghost use Rattle.std.specs.Prelude.{◌≡◌, [], get_or, take, drop};
+ghost use Rattle.std.specs.Prelude.{◌≡◌, [], get_or};
 ghost use Rattle.lists.specs.Pieces.{pieces};
 ghost use Rattle.tables.specs.Rows.{rows};
 
 use super::corners::Corner;
-use super::slices::{part, piece_end};
+use super::slices::piece_end;
 
 // Loop k; past the last one, nothing.
 pub fn loop_of<'a>(t: &'a [Corner], counts: &[usize], k: usize) -> &'a [Corner]
@@ -18,11 +18,4 @@ pub fn loop_of<'a>(t: &'a [Corner], counts: &[usize], k: usize) -> &'a [Corner]
         from = piece_end(t.len(), from, counts[i]);
     }
     &t[from..piece_end(t.len(), from, counts[k])]
-}
-
-// The n rows from row `from` on; what is left where there are fewer.
-pub fn part_of(t: &[Corner], from: usize, n: usize) -> &[Corner]
-    ensures { rows result.now ≡ take n (drop from (rows t.now)) }
-{
-    part(t, from, n)
 }

@@ -5,13 +5,6 @@ ghost use Rattle.std.specs.Float.{nan};
 ghost use Rattle.lists.specs.Parts.{part_of};
 ghost use Rattle.lists.specs.Placed.{placed};
 
-// The shorter of two lengths.
-pub fn shorter(m: usize, n: usize) -> usize
-    ensures { result ≡ min m n }
-{
-    m.min(n)
-}
-
 // The element at i, and a NaN past the end: a read that asks nothing.
 pub fn at(s: &[f64], i: usize) -> f64
     ensures { result ≡ get_or s.now i nan }
@@ -64,6 +57,6 @@ pub fn part<T>(xs: &[T], start: usize, count: usize) -> &[T]
     ensures { result.now ≡ part_of start count xs.now }
 {
     let n = xs.len();
-    let from = shorter(start, n);
+    let from = start.min(n);
     &xs[from..piece_end(n, from, count)]
 }

@@ -1,5 +1,8 @@
 use native.Mathlib.Omega.{arith}
 use borrow.Author.Rules.{rules}
+use Rattle.std.proofs.Common.{ap, ◌∙◌}
+use Rattle.tables.specs.Rows.{rows}
+use Rattle.tables.proofs.PartRows.{rows-placed}
 use Rattle.filling.proofs.Taken.{room_in}
 use Rattle.filling.proofs.Finding.{areas-put, face_of_lem}
 use Rattle.filling.proofs.Banded.{filled_short, filled_long}
@@ -15,7 +18,7 @@ returns-in-Ok c = λ s acc two given_is corners_are loops_are wraps_are areas_ar
     filled_short _ _ _ _ _ _ _ _ f _ _ _ (c.band_of-closing.ensures s f (room_in _ (omega arith))) _ c.in-Ok.is (omega arith)
     (omega (arith, c.holes-2-1.given))
     _ a.counts.now _ a.areas.now _ _ (search rules) (search rules)
-    c.copy_rows.ensures c.pick.ensures (areas-put _ _ _ _ _ _ areas_are c.pick-in-Ok.ensures) c.saturating_sub.ensures
+    (ap rows c.copy_into.ensures ∙ rows-placed _ _ _) c.pick.ensures (areas-put _ _ _ _ _ _ areas_are c.pick-in-Ok.ensures) c.saturating_sub.ensures
 
 pub returns-in-Err : goal.returns-in-Err
 returns-in-Err c = λ s acc two given_is corners_are loops_are wraps_are areas_are patch_is sense_is.

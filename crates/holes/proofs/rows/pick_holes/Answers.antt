@@ -5,6 +5,7 @@ use Rattle.lists.specs.Pieces.{pieces}
 use Rattle.lists.proofs.Pieces.{length-pieces}
 use Rattle.tables.specs.Rows.{rows}
 use Rattle.tables.specs.Loops.{loops_left}
+use Rattle.tables.proofs.PartRows.{rows-placed}
 use Rattle.tables.proofs.Rows.{length-rows}
 use Rattle.holes.specs.Others.{is_ring}
 use Rattle.holes.proofs.Later.{later, picking-ring, picking_room, picking-hole, picking-end}
@@ -13,16 +14,16 @@ use Rattle.holes.proofs.rows.pick_holes.Goals as goal
 pub returns-then-not-has_room : goal.returns-then-not-has_room
 returns-then-not-has_room c =
     let all = later c.args.a c.args.b 0 (pieces c.args.counts.now (rows c.args.t.now)) in
-    let short = leb-false (c.args.at + c.count_rows.result) c.count.result (sym c.has_room.ensures ∙ c.if-not-has_room.true) in
-    sym (placed_short c.args.at all (rows c.args.out.now) (omega (arith, short, c.count_rows.ensures.0, c.count.ensures.0)))
+    let short = leb-false (c.args.at + c.count_rows.result) (length c.args.out.now) (sym c.has_room.ensures ∙ c.if-not-has_room.true) in
+    sym (placed_short c.args.at all (rows c.args.out.now) (omega (arith, short, c.count_rows.ensures.0, length-rows c.args.out.now)))
 
 pub loop-i-init : goal.loop-i-init
 loop-i-init c =
-    let enough = leb-true (c.args.at + c.count_rows.result) c.count.result (sym c.has_room.ensures ∙ c.if-not-has_room.false) in
+    let enough = leb-true (c.args.at + c.count_rows.result) (length c.args.out.now) (sym c.has_room.ensures ∙ c.if-not-has_room.false) in
     let begin = c.into_iter-i-iterator.ensures.into_iter_gives in
     let count = ap (λ e. e.count) begin ∙ c.enumerate-i-items.ensures.count in
     let loops = ap (λ e. loops_left e.iter) begin ∙ ap loops_left c.enumerate-i-items.ensures.source ∙ c.new.ensures in
-    rw (count, loops) (record { is = refl; room = omega (arith, enough, c.count_rows.ensures.0, c.count.ensures.0) })
+    rw (count, loops) (record { is = refl; room = omega (arith, enough, c.count_rows.ensures.0, length-rows c.args.out.now) })
 
 pub loop-i-init-derived : goal.loop-i-init-derived
 loop-i-init-derived c =
@@ -43,7 +44,8 @@ pub loop-i-preserved-then-not-is_ring : goal.loop-i-preserved-then-not-is_ring
 loop-i-preserved-then-not-is_ring c =
     let s = c.in-Some.ensures.steps in
     let hole = ap (is_ring c.args.a c.args.b) (sym s.1) ∙ sym c.is_ring.ensures ∙ c.if-not-is_ring.true in
-    rw (s.2, c.copy_rows.ensures, sym (length-rows c.in-Some.one.now)) (picking-hole _ _ _ _ _ _ _ _ _ c.loop-i.invariant s.0 hole)
+    let copied = ap rows c.copy_into.ensures ∙ rows-placed c.loop-i.here c.in-Some.one.now c.loop-i.out in
+    rw (s.2, copied, sym (length-rows c.in-Some.one.now)) (picking-hole _ _ _ _ _ _ _ _ _ c.loop-i.invariant s.0 hole)
 
 pub loop-i-preserved : goal.loop-i-preserved
 loop-i-preserved c =

@@ -1,5 +1,6 @@
 use mathlib.Core.Path.{sym, ◌∙◌}
 use native.Mathlib.Omega.{arith}
+use Rattle.tables.proofs.Rows.{length-rows}
 use Rattle.records.proofs.Reading as reading
 use Rattle.records.proofs.read.read_corners.Goals as goal
 
@@ -15,10 +16,10 @@ loops-requires c = reading.there_header _ (sym c.counts_there.ensures ∙ c.if-n
 pub returns-then-face-loops : goal.returns-then-face-loops
 returns-then-face-loops c = reading.no_corners _ _ (omega arith) c.if-face-loops.true
 
-pub returns-then-count-n : goal.returns-then-count-n
-returns-then-count-n c = reading.no_corners_room _ _ c.points-n.ensures.0 c.count.ensures.0 c.if-count-n.true
+pub returns-then-t-n : goal.returns-then-t-n
+returns-then-t-n c = reading.no_corners_room _ _ c.points-n.ensures.0 (sym (length-rows c.args.t.now)) c.if-t-n.true
 
 pub returns : goal.returns
 returns c = reading.corners_read _ _ _
-    (reading.corners_room _ _ c.points-n.ensures.0 c.count.ensures.0 (omega arith) c.if-face-loops.false c.if-count-n.false)
+    (reading.corners_room _ _ c.points-n.ensures.0 (sym (length-rows c.args.t.now)) (omega arith) c.if-face-loops.false c.if-t-n.false)
     c.fill_corners.ensures
