@@ -8,8 +8,7 @@ use mir.Syntax.{w8}
 use mir.Val.{Fits}
 use borrow.Author.Tests.{lt-ltb, le-ltb}
 use lib.ListN.{length, get_or, take, length-map}
-use Rattle.std.specs.Prelude.{Option, Result, Ok, Err}
-use Rattle.std.specs.Option.{unwrap_or}
+use Rattle.std.specs.Prelude.{Result, Ok, Err}
 use Rattle.tables.specs.declared.corners.Corner.{Corner as Held}
 use Rattle.records.specs.declared.refusal.Refusal.{Refusal}
 use Rattle.records.specs.declared.refusal.Refusal.TheVariants.{TooFewLent, WrongHeader}
@@ -32,7 +31,6 @@ use Rattle.call.proofs.Demands.{demand_1, demand_3, strip_short}
 use Rattle.magnitudes.specs.Bounded.{ResultBounded}
 use Rattle.magnitudes.proofs.Still.{whole_demand}
 use Rattle.magnitudes.proofs.Theorem.{result_bounded}
-use Rattle.results.specs.declared.Path.{Path}
 use Rattle.results.specs.Written.{path_of, WrittenTo}
 use Rattle.filling.specs.declared.face.FilledFace.{FilledFace}
 use Rattle.filling.specs.Filled.{HoldsResult, FillsTo}
@@ -59,15 +57,6 @@ module _ (s old : List ℕ) (byte : Fits w8 (get_or s 2 0)) where
         h.answer,
         (n, (rw (c, v, n) (demand_1 s old loops-byte), (rw (c, n) (demand_3 s old), (rw (c, n) (whole_demand s old), rw (c, n) (result_bounded s old))))),
       )
-
--- what is promised of an answer, of the two numbers that are told of it
-pub paired : (o : Outcome) (s old : List ℕ) (r : Result ℕ Refusal) {new : List ℕ} {number at : ℕ} → number ≡ code_of r → at ≡ value_of r
-    → Tells r o × ((new ≡ lent_after o old) × Claims s old (code_of r) (value_of r) new)
-    → (number ≡ code o) × ((at ≡ value o) × ((new ≡ lent_after o old) × Claims s old number at new))
-paired o s old r {new} n v h = (
-  n ∙ code_is o r h.0,
-  (v ∙ value_is o r h.0, (h.1.0, rw (n, v) h.1.1)),
-)
 
 -- the conditions of the record, by the limits of version 1: those behind refusal 1
 abbrev behind_lent : List Condition
@@ -126,9 +115,3 @@ module _ (old s : List ℕ) where
             subst (λ (o : Outcome). AnswersTo o (Ok k) old new) (sym (judge_is passes passed))
             (result-written version1 version1_encodable s accepted.loops_are accepted.total (strip_short version1 (length old) s free)
             filled.path (ap (λ (k : FilledFace). path_of k.path) f.face ∙ path-taken s) (take filled.loops counts) areas t held old enough new w.written k to w.bytes)
-
--- the bytes of a result with l of its counts
-pub bytes_told : (path : Path) (loops : ℕ) (counts : List ℕ) (areas : List Float) (t : List Held) (old new : List ℕ) (r l : ℕ) → l ≡ min loops (length counts)
-    → (w : Option ℕ) → WrittenTo path (take l counts) areas t old new w → r ≡ unwrap_or w 0 → WrittenBytes path loops counts areas t old new r
-bytes_told path loops counts areas t old new r l l_is w to bytes =
-    record { written = w; written_to = subst (λ (m : ℕ). WrittenTo path (take m counts) areas t old new w) l_is to; bytes = bytes }

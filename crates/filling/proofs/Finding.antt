@@ -29,7 +29,7 @@ use Rattle.records.specs.Refusals.{at, first_where}
 use Rattle.records.specs.Refusals as Sought
 use Rattle.std.specs.Prelude.{Option, Some, None}
 use Rattle.std.specs.Option.{unwrap_or}
-use Rattle.call.specs.Face.{frame_in, surface_in, options_in, sense_in, wrapping, wraps_in}
+use Rattle.call.specs.Face.{sense_in, wrapping, wraps_in}
 use Rattle.loop_records.specs.Loops.{records_from}
 use Rattle.call.specs.Later.{wraps_at}
 use Rattle.measuring.specs.LastWhere.{last_where}

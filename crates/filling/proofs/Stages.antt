@@ -29,7 +29,7 @@ use Rattle.records.proofs.Accepted.{accepted_exactly}
 use Rattle.records.proofs.Columns.{length-counts}
 use Rattle.records.proofs.Refused.{verdict-passes}
 use Rattle.records.specs.Limits.{version1}
-use Rattle.call.specs.Face.{surface_of, measured_in, is_wrapping, wrapping, surface_in, frame_in, options_in, sense_in, loops_in, wraps_in}
+use Rattle.call.specs.Face.{surface_of, measured_in, is_wrapping, wrapping, surface_in, sense_in, loops_in, wraps_in}
 use Rattle.call.specs.Paths.{signed_area}
 use Rattle.call.specs.Later.{long_strip, wrapping_of, ring_conditions, strip_conditions}
 use Rattle.call.proofs.Demands.{two_wrap}
