@@ -2,14 +2,12 @@
 use Prim.Native.Nat.{ℕ, ◌≤◌, ◌<◌, min}
 use mathlib.Core.Path.{◌≡◌, sym, ap, ◌∙◌, subst}
 use mathlib.Core.List.{List, ◌++◌}
-use lib.Ieee.{Float}
 use native.Mathlib.Omega.{arith}
 use mir.Syntax.{w8}
 use mir.Val.{Fits}
 use borrow.Author.Tests.{lt-ltb, le-ltb}
 use lib.ListN.{length, get_or, take, length-map}
 use Rattle.std.specs.Prelude.{Result, Ok, Err}
-use Rattle.tables.specs.declared.corners.Corner.{Corner as Held}
 use Rattle.records.specs.declared.refusal.Refusal.{Refusal}
 use Rattle.records.specs.declared.refusal.Refusal.TheVariants.{TooFewLent, WrongHeader}
 use Rattle.records.specs.declared.limits.Limits.{Limits}
@@ -33,6 +31,7 @@ use Rattle.magnitudes.proofs.Still.{whole_demand}
 use Rattle.magnitudes.proofs.Theorem.{result_bounded}
 use Rattle.results.specs.Written.{path_of, WrittenTo}
 use Rattle.filling.specs.declared.face.FilledFace.{FilledFace}
+use Rattle.filling.specs.declared.result_loops.ResultLoops.{ResultLoops}
 use Rattle.filling.specs.Filled.{HoldsResult, FillsTo}
 use Rattle.closer.specs.Returned.{Tells, code_of, value_of, WrittenBytes}
 use Rattle.closer.proofs.Numbers.{code_is, value_is}
@@ -84,22 +83,22 @@ module _ (old s : List ℕ) where
     unfolding verdict
     header_refused p is = refused_by _ (WrongHeader p) (judge_is (refuses 2 p) (rw (sym is))) old
 
-    module _ (counts : List ℕ) (areas : List Float) (t : List Held) where
-      pub face_refused : (r : Refusal) → FillsTo (verdict behind_lent s) s (Err r) counts areas t → AnswersTo (judge (length old) s) (Err r) old old
+    module _ (out : ResultLoops) where
+      pub face_refused : (r : Refusal) → FillsTo (verdict behind_lent s) s (Err r) out → AnswersTo (judge (length old) s) (Err r) old old
       face_refused r f = refused_by _ r (judge_is (refuses (refusal_number r) (refusal_place r)) (sym f.answer)) old
 
-      module _ (filled : FilledFace) (f : FillsTo (verdict behind_lent s) s (Ok filled) counts areas t) where
+      module _ (filled : FilledFace) (f : FillsTo (verdict behind_lent s) s (Ok filled) out) where
         passed : verdict behind_lent s ≡ passes
         passed = sym f.answer
 
         many : filled.loops ≡ length (result_loops s)
         many = ap (λ (k : FilledFace). k.loops) f.face
 
-        held : HoldsResult (result_loops s) (take filled.loops counts) areas t
-        held = subst (λ (k : ℕ). HoldsResult (result_loops s) (take k counts) areas t) (sym many) (f.holds passed)
+        held : HoldsResult (result_loops s) (take filled.loops out.counts) out.areas out.corners
+        held = subst (λ (k : ℕ). HoldsResult (result_loops s) (take k out.counts) out.areas out.corners) (sym many) (f.holds passed)
 
-        counts_there_lem : filled.loops ≤ length counts
-        counts_there_lem = front_full filled.loops counts (ap length held.counts_are ∙ length-map (result_loops s) count_of ∙ sym many)
+        counts_there_lem : filled.loops ≤ length out.counts
+        counts_there_lem = front_full filled.loops out.counts (ap length held.counts_are ∙ length-map (result_loops s) count_of ∙ sym many)
 
         free : NoneHolds (all_conditions (length old)) s
         free = (verdict-passes s (all_conditions (length old))).0 (lent-passes ∙ passed)
@@ -107,11 +106,11 @@ module _ (old s : List ℕ) where
         accepted : Accepted version1 s
         accepted = (accepted_exactly s version1).0 (first_passes s (later_conditions version1) (record_conditions version1) passed)
 
-        pub face-closed : (new : List ℕ) (k : ℕ) → WrittenBytes filled.path filled.loops counts areas t old new k → AnswersTo (judge (length old) s) (Ok k) old new
+        pub face-closed : (new : List ℕ) (k : ℕ) → WrittenBytes filled.path filled.loops out.counts out.areas out.corners old new k → AnswersTo (judge (length old) s) (Ok k) old new
         face-closed new k w =
-            let few : min filled.loops (length counts) ≡ filled.loops = let c = counts_there_lem in omega arith in
-            let to : WrittenTo filled.path (take filled.loops counts) areas t old new w.written =
-            subst (λ (m : ℕ). WrittenTo filled.path (take m counts) areas t old new w.written) few w.written_to in
+            let few : min filled.loops (length out.counts) ≡ filled.loops = let c = counts_there_lem in omega arith in
+            let to : WrittenTo filled.path (take filled.loops out.counts) out.areas out.corners old new w.written =
+            subst (λ (m : ℕ). WrittenTo filled.path (take m out.counts) out.areas out.corners old new w.written) few w.written_to in
             subst (λ (o : Outcome). AnswersTo o (Ok k) old new) (sym (judge_is passes passed))
             (result-written version1 version1_encodable s accepted.loops_are accepted.total (strip_short version1 (length old) s free)
-            filled.path (ap (λ (k : FilledFace). path_of k.path) f.face ∙ path-taken s) (take filled.loops counts) areas t held old enough new w.written k to w.bytes)
+            filled.path (ap (λ (k : FilledFace). path_of k.path) f.face ∙ path-taken s) (take filled.loops out.counts) out.areas out.corners held old enough new w.written k to w.bytes)

@@ -70,7 +70,7 @@ fn fill_path(
         → loops.now ≡ placed 0 (records_from (u_period surface) 0 (pieces given.now (rows corners.old))) (replicate 16 no_loop)
         → wraps.now ≡ wraps_in face.now → measured.old ≡ map signed_area (pieces given.now (rows corners.old))
         → surface ≡ surface_in face.now → verdict ring_conditions face.now ≡ passes
-        → FillsTo (verdict (strip_conditions version1) face.now) face.now result out.new.counts out.new.areas out.new.corners }
+        → FillsTo (verdict (strip_conditions version1) face.now) face.now result out.new }
 {
     if given.len() == 0 {
         return Ok(fill_whole(patch_of(face, head, surface), out));
@@ -93,7 +93,7 @@ fn fill_path(
 // A record that the refusals 2 to 7 let pass: it is read, its loops are measured, the refusals 8 to 11
 // tested, and its path taken, which may refuse by 12.
 fn fill_record(face: &[u8], out: &mut ResultLoops) -> Result<FilledFace, Refusal>
-    ensures { Accepted version1 face.now → FillsTo (verdict (later_conditions version1) face.now) face.now result out.new.counts out.new.areas out.new.corners }
+    ensures { Accepted version1 face.now → FillsTo (verdict (later_conditions version1) face.now) face.now result out.new }
 {
     let mut head = [0.0; 13];
     let mut given = [0; 16];
@@ -121,7 +121,7 @@ fn fill_record(face: &[u8], out: &mut ResultLoops) -> Result<FilledFace, Refusal
 
 // The face of a record closed into what is lent, or refused.
 pub fn fill_face(face: &[u8], out: &mut ResultLoops) -> Result<FilledFace, Refusal>
-    ensures { FillsTo (verdict (record_conditions version1 ++ later_conditions version1) face.now) face.now result out.new.counts out.new.areas out.new.corners }
+    ensures { FillsTo (verdict (record_conditions version1 ++ later_conditions version1) face.now) face.now result out.new }
 {
     check(face, version1())?;
     fill_record(face, out)

@@ -55,7 +55,7 @@ pub mod ring_refusals;
 // The whole path: a sphere or a torus that no loop trims.
 fn fill_whole(patch: Patch, out: &mut ResultLoops) -> FilledFace
     ensures { (s : List ℕ) → Accepted version1 s → loops_of s ≡ 0 → patch ≡ patch_in s
-        → FillsTo passes s (Ok result) out.new.counts out.new.areas out.new.corners }
+        → FillsTo passes s (Ok result) out.new }
 {
     out.counts[0] = full_domain_count(patch);
     out.areas[0] = full_domain_loop(patch, &mut out.corners);
@@ -75,7 +75,7 @@ fn fill_closed(
 ) -> FilledFace
     ensures { (s : List ℕ) → Accepted version1 s → 0 < loops_of s → wrapping s ≡ 0 → surface ≡ surface_in s
         → given.now ≡ counts_of s → rows corners.old ≡ corners_in s → measured.old ≡ map signed_area (pieces given.now (rows corners.old))
-        → FillsTo passes s (Ok result) out.new.counts out.new.areas out.new.corners }
+        → FillsTo passes s (Ok result) out.new }
 {
     let mut boxes = [empty_box(); 16];
     closed_face(
@@ -202,7 +202,7 @@ fn fill_band(
     ensures { (s : List ℕ) → Accepted version1 s → wrapping s ≡ 2 → given.now ≡ counts_of s → rows corners.now ≡ corners_in s
         → loops.now ≡ placed 0 (records_from (u_period patch.surface) 0 (pieces given.now (rows corners.now))) (replicate 16 no_loop)
         → wraps.now ≡ wraps_in s → measured.now ≡ map signed_area (pieces given.now (rows corners.now)) → patch ≡ patch_in s → sense ≡ sense_in s
-        → FillsTo (verdict (strip_conditions version1) s) s result out.new.counts out.new.areas out.new.corners }
+        → FillsTo (verdict (strip_conditions version1) s) s result out.new }
 {
     let mut holes = [ORIGIN; 512];
     let a = last_wrapping(wraps).unwrap_or(0);

@@ -34,10 +34,10 @@ returns-in_err-filled c =
     let p = err_from_is_err_and c.from_residual.result c.from_residual.ensures.1 in
     by_clause
     (promised _ _ (c.shared_slice_known-1.given 2)
-    (rw (p.1, p.2) (face_refused _ _ _ c.version1-limits.ensures c.if-res-limits.false _ _ _ _ c.in_err-filled.ensures)))
+    (rw (p.1, p.2) (face_refused _ _ _ c.version1-limits.ensures c.if-res-limits.false _ _ c.in_err-filled.ensures)))
 
 pub returns : goal.returns
 returns c =
     by_clause
     (promised _ _ (c.shared_slice_known-1.given 2)
-    (face-closed _ _ _ c.version1-limits.ensures c.if-res-limits.false _ _ _ _ c.in_ok-filled.ensures _ _ c.write_filled.ensures))
+    (face-closed _ _ _ c.version1-limits.ensures c.if-res-limits.false _ _ c.in_ok-filled.ensures _ _ c.write_filled.ensures))

@@ -56,7 +56,7 @@ returns-in_err-check_rings c = λ a.
     c.wraps_of-wraps.ensures in
     let p = err_from_is_err_and c.from_residual.result c.from_residual.ensures.1 in
     rw (p.1, p.2) (refused_as _ ring_conditions (strip_conditions version1) _
-    (c.in_err-check_rings.ensures ∙ rings_judged _ _ (held _ a _ _ _ read) _ wraps_are _ c.kind-2.ensures) _ _ _)
+    (c.in_err-check_rings.ensures ∙ rings_judged _ _ (held _ a _ _ _ read) _ wraps_are _ c.kind-2.ensures) _)
 
 pub slice_bounds-given-end-3 : goal.slice_bounds-given-end-3
 slice_bounds-given-end-3 c = let b = counts_told _ _ _ _ c.read_counts.ensures _ c.unwrap_or-l.ensures in omega (arith, c.given-2-1.given)
@@ -101,6 +101,6 @@ returns c = λ a.
     let areas_are = areas_in _ a _ _ _ read _ surface_is _ c.u_period.ensures _ c.measure_loops-loops.ensures _ many _
     c.areas_of-measured.ensures in
     let found = c.in_ok-check_rings.ensures ∙ rings_judged _ _ (held _ a _ _ _ read) _ wraps_are _ c.kind-2.ensures in
-    filled_as _ ring_conditions (strip_conditions version1) found _ _ _ _
+    filled_as _ ring_conditions (strip_conditions version1) found _ _
     (c.fill_path.ensures a read (records_in _ a _ _ _ read _ surface_is _ c.u_period.ensures _ c.measure_loops-loops.ensures) wraps_are
     areas_are surface_is (sym found))
