@@ -101,18 +101,23 @@ fn fill_record(face: &[u8], out: &mut ResultLoops) -> Result<FilledFace, Refusal
     read_head(face, &mut head);
     let l = read_counts(face, &mut given).unwrap_or(0);
     let e = read_corners(face, &mut corners).unwrap_or(0);
+    let given = &given[..l];
+    let corners = &mut corners[..e];
     let surface = surface_of(kind(face), at(&head, 9), at(&head, 10));
-    let loops = measure_loops(&corners[..e], &given[..l], surface.u_period());
+    let loops = measure_loops(corners, given, surface.u_period());
+    // The refusals and the comparison speak of a list of wraps, and the closed path changes the areas
+    // where they are: both stand beside the records.
     let wraps = wraps_of(loops);
+    let wraps = &wraps[..l];
     let mut measured = areas_of(loops);
-    check_rings(kind(face), &corners[..e], &given[..l], &wraps[..l])?;
+    check_rings(kind(face), corners, given, wraps)?;
     fill_path(
         face,
         &head,
-        &given[..l],
-        &mut corners[..e],
+        given,
+        corners,
         &loops,
-        &wraps[..l],
+        wraps,
         &mut measured[..l],
         surface,
         out,

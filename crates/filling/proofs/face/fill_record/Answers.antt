@@ -9,42 +9,29 @@ use Rattle.filling.proofs.Refused.{rings_judged}
 use Rattle.filling.proofs.Stages.{held, surface_in_lem, records_in, wraps_in_lem, areas_in, refused_as, filled_as}
 use Rattle.filling.proofs.face.fill_record.Goals as goal
 
-pub slice_bounds-corners-end : goal.slice_bounds-corners-end
-slice_bounds-corners-end c = let b = rows_told _ _ _ _ c.read_corners.ensures _ c.unwrap_or-e.ensures in omega (arith, c.corners-2-1.given)
-
-pub slice_bounds-measure_loops-end : goal.slice_bounds-measure_loops-end
-slice_bounds-measure_loops-end c = sym
-    (length-take-le _ _ (let b = rows_told _ _ _ _ c.read_corners.ensures _ c.unwrap_or-e.ensures in omega (arith, c.corners-2-1.given)))
-
 pub slice_bounds-given-end : goal.slice_bounds-given-end
 slice_bounds-given-end c = let b = counts_told _ _ _ _ c.read_counts.ensures _ c.unwrap_or-l.ensures in omega (arith, c.given-2-1.given)
 
-pub slice_bounds-measure_loops-end-2 : goal.slice_bounds-measure_loops-end-2
-slice_bounds-measure_loops-end-2 c = sym
-    (length-take-le _ _ (let b = counts_told _ _ _ _ c.read_counts.ensures _ c.unwrap_or-l.ensures in omega (arith, c.given-2-1.given)))
+pub slice_bounds-given-end-2 : goal.slice_bounds-given-end-2
+slice_bounds-given-end-2 c = sym (length-take-le _ _ (let b = counts_told _ _ _ _ c.read_counts.ensures _ c.unwrap_or-l.ensures in omega (arith, c.given-2-1.given)))
+
+pub slice_bounds-corners-end : goal.slice_bounds-corners-end
+slice_bounds-corners-end c = let b = rows_told _ _ _ _ c.read_corners.ensures _ c.unwrap_or-e.ensures in omega (arith, c.corners-2-1.given)
 
 pub slice_bounds-corners-end-2 : goal.slice_bounds-corners-end-2
-slice_bounds-corners-end-2 c =
-    let b = rows_told _ _ _ _ c.read_corners.ensures _ c.unwrap_or-e.ensures in
-    omega (arith, c.corners-2-1.given)
-
-pub slice_bounds-check_rings-end : goal.slice_bounds-check_rings-end
-slice_bounds-check_rings-end c = sym
-    (length-take-le _ _ (let b = rows_told _ _ _ _ c.read_corners.ensures _ c.unwrap_or-e.ensures in omega (arith, c.corners-2-1.given)))
-
-pub slice_bounds-given-end-2 : goal.slice_bounds-given-end-2
-slice_bounds-given-end-2 c = let b = counts_told _ _ _ _ c.read_counts.ensures _ c.unwrap_or-l.ensures in omega (arith, c.given-2-1.given)
-
-pub slice_bounds-check_rings-end-2 : goal.slice_bounds-check_rings-end-2
-slice_bounds-check_rings-end-2 c = sym
-    (length-take-le _ _ (let b = counts_told _ _ _ _ c.read_counts.ensures _ c.unwrap_or-l.ensures in omega (arith, c.given-2-1.given)))
+slice_bounds-corners-end-2 c = sym (length-take-le _ _ (let b = rows_told _ _ _ _ c.read_corners.ensures _ c.unwrap_or-e.ensures in omega (arith, c.corners-2-1.given)))
 
 pub slice_bounds-wraps-end : goal.slice_bounds-wraps-end
 slice_bounds-wraps-end c = let b = counts_told _ _ _ _ c.read_counts.ensures _ c.unwrap_or-l.ensures in omega arith
 
-pub slice_bounds-check_rings-end-3 : goal.slice_bounds-check_rings-end-3
-slice_bounds-check_rings-end-3 c = sym
-    (length-take-le _ _ (let b = counts_told _ _ _ _ c.read_counts.ensures _ c.unwrap_or-l.ensures in omega arith))
+pub slice_bounds-wraps-end-2 : goal.slice_bounds-wraps-end-2
+slice_bounds-wraps-end-2 c = sym (length-take-le _ _ (let b = counts_told _ _ _ _ c.read_counts.ensures _ c.unwrap_or-l.ensures in omega arith))
+
+pub slice_bounds-measured-end : goal.slice_bounds-measured-end
+slice_bounds-measured-end c = let b = counts_told _ _ _ _ c.read_counts.ensures _ c.unwrap_or-l.ensures in omega arith
+
+pub slice_bounds-fill_path-end-3 : goal.slice_bounds-fill_path-end-3
+slice_bounds-fill_path-end-3 c = sym (length-take-le _ _ (let b = counts_told _ _ _ _ c.read_counts.ensures _ c.unwrap_or-l.ensures in omega arith))
 
 pub returns-in_err-check_rings : goal.returns-in_err-check_rings
 returns-in_err-check_rings c = λ a.
@@ -57,38 +44,6 @@ returns-in_err-check_rings c = λ a.
     let p = err_from_is_err_and c.from_residual.result c.from_residual.ensures.1 in
     rw (p.1, p.2) (refused_as _ ring_conditions (strip_conditions version1) _
     (c.in_err-check_rings.ensures ∙ rings_judged _ _ (held _ a _ _ _ read) _ wraps_are _ c.kind-2.ensures) _)
-
-pub slice_bounds-given-end-3 : goal.slice_bounds-given-end-3
-slice_bounds-given-end-3 c = let b = counts_told _ _ _ _ c.read_counts.ensures _ c.unwrap_or-l.ensures in omega (arith, c.given-2-1.given)
-
-pub slice_bounds-fill_path-end-2 : goal.slice_bounds-fill_path-end-2
-slice_bounds-fill_path-end-2 c = sym
-    (length-take-le _ _ (let b = counts_told _ _ _ _ c.read_counts.ensures _ c.unwrap_or-l.ensures in omega (arith, c.given-2-1.given)))
-
-pub slice_bounds-corners-end-3 : goal.slice_bounds-corners-end-3
-slice_bounds-corners-end-3 c =
-    let b = rows_told _ _ _ _ c.read_corners.ensures _ c.unwrap_or-e.ensures in
-    omega (arith, c.corners-2-1.given)
-
-pub slice_bounds-fill_path-end-3 : goal.slice_bounds-fill_path-end-3
-slice_bounds-fill_path-end-3 c = sym
-    (length-take-le _ _ (let b = rows_told _ _ _ _ c.read_corners.ensures _ c.unwrap_or-e.ensures in omega (arith, c.corners-2-1.given)))
-
-pub slice_bounds-wraps-end-2 : goal.slice_bounds-wraps-end-2
-slice_bounds-wraps-end-2 c = let b = counts_told _ _ _ _ c.read_counts.ensures _ c.unwrap_or-l.ensures in omega arith
-
-pub slice_bounds-fill_path-end-5 : goal.slice_bounds-fill_path-end-5
-slice_bounds-fill_path-end-5 c = sym
-    (length-take-le _ _ (let b = counts_told _ _ _ _ c.read_counts.ensures _ c.unwrap_or-l.ensures in omega arith))
-
-pub slice_bounds-measured-end : goal.slice_bounds-measured-end
-slice_bounds-measured-end c =
-    let b = counts_told _ _ _ _ c.read_counts.ensures _ c.unwrap_or-l.ensures in
-    omega arith
-
-pub slice_bounds-fill_path-end-6 : goal.slice_bounds-fill_path-end-6
-slice_bounds-fill_path-end-6 c = sym
-    (length-take-le _ _ (let b = counts_told _ _ _ _ c.read_counts.ensures _ c.unwrap_or-l.ensures in omega arith))
 
 pub returns : goal.returns
 returns c = λ a.
