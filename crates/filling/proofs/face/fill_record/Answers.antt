@@ -10,16 +10,16 @@ use Rattle.filling.proofs.Stages.{held, surface_in_lem, records_in, wraps_in_lem
 use Rattle.filling.proofs.face.fill_record.Goals as goal
 
 pub slice_bounds-given-end : goal.slice_bounds-given-end
-slice_bounds-given-end c = let b = counts_told _ _ _ _ c.read_counts.ensures _ c.unwrap_or-l.ensures in omega (arith, c.given-2-1.given)
+slice_bounds-given-end c = let b = counts_told _ _ _ _ c.read_counts.ensures _ c.unwrap_or-l.ensures in omega arith
 
 pub slice_bounds-given-end-2 : goal.slice_bounds-given-end-2
-slice_bounds-given-end-2 c = sym (length-take-le _ _ (let b = counts_told _ _ _ _ c.read_counts.ensures _ c.unwrap_or-l.ensures in omega (arith, c.given-2-1.given)))
+slice_bounds-given-end-2 c = sym (length-take-le _ _ (let b = counts_told _ _ _ _ c.read_counts.ensures _ c.unwrap_or-l.ensures in omega arith))
 
 pub slice_bounds-corners-end : goal.slice_bounds-corners-end
-slice_bounds-corners-end c = let b = rows_told _ _ _ _ c.read_corners.ensures _ c.unwrap_or-e.ensures in omega (arith, c.corners-2-1.given)
+slice_bounds-corners-end c = let b = rows_told _ _ _ _ c.read_corners.ensures _ c.unwrap_or-e.ensures in omega arith
 
 pub slice_bounds-corners-end-2 : goal.slice_bounds-corners-end-2
-slice_bounds-corners-end-2 c = sym (length-take-le _ _ (let b = rows_told _ _ _ _ c.read_corners.ensures _ c.unwrap_or-e.ensures in omega (arith, c.corners-2-1.given)))
+slice_bounds-corners-end-2 c = sym (length-take-le _ _ (let b = rows_told _ _ _ _ c.read_corners.ensures _ c.unwrap_or-e.ensures in omega arith))
 
 pub slice_bounds-wraps-end : goal.slice_bounds-wraps-end
 slice_bounds-wraps-end c = let b = counts_told _ _ _ _ c.read_counts.ensures _ c.unwrap_or-l.ensures in omega arith
@@ -35,9 +35,9 @@ slice_bounds-fill_path-end-3 c = sym (length-take-le _ _ (let b = counts_told _ 
 
 pub returns-in_err-check_rings : goal.returns-in_err-check_rings
 returns-in_err-check_rings c = λ a.
-    let read = read_as _ a _ _ _ c.read_head.ensures refl c.head-2-1.given _ _ _ c.read_counts.ensures refl _ c.unwrap_or-l.ensures _ _ _
+    let read = read_as _ a _ _ _ c.read_head.ensures refl (omega arith) _ _ _ c.read_counts.ensures refl _ c.unwrap_or-l.ensures _ _ _
     c.read_corners.ensures refl _ c.unwrap_or-e.ensures in
-    let many = counts_many _ _ _ _ c.read_counts.ensures c.given-2-1.given _ c.unwrap_or-l.ensures in
+    let many = counts_many _ _ _ _ c.read_counts.ensures (omega arith) _ c.unwrap_or-l.ensures in
     let surface_is = surface_in_lem _ a _ _ _ read _ c.kind.ensures _ _ c.at.ensures c.at-2.ensures _ c.surface_of-surface.ensures in
     let wraps_are = wraps_in_lem _ a _ _ _ read _ surface_is _ c.u_period.ensures _ c.measure_loops-loops.ensures _ many _
     c.wraps_of-wraps.ensures in
@@ -47,9 +47,9 @@ returns-in_err-check_rings c = λ a.
 
 pub returns : goal.returns
 returns c = λ a.
-    let read = read_as _ a _ _ _ c.read_head.ensures refl c.head-2-1.given _ _ _ c.read_counts.ensures refl _ c.unwrap_or-l.ensures _ _ _
+    let read = read_as _ a _ _ _ c.read_head.ensures refl (omega arith) _ _ _ c.read_counts.ensures refl _ c.unwrap_or-l.ensures _ _ _
     c.read_corners.ensures refl _ c.unwrap_or-e.ensures in
-    let many = counts_many _ _ _ _ c.read_counts.ensures c.given-2-1.given _ c.unwrap_or-l.ensures in
+    let many = counts_many _ _ _ _ c.read_counts.ensures (omega arith) _ c.unwrap_or-l.ensures in
     let surface_is = surface_in_lem _ a _ _ _ read _ c.kind.ensures _ _ c.at.ensures c.at-2.ensures _ c.surface_of-surface.ensures in
     let wraps_are = wraps_in_lem _ a _ _ _ read _ surface_is _ c.u_period.ensures _ c.measure_loops-loops.ensures _ many _
     c.wraps_of-wraps.ensures in
