@@ -66,5 +66,6 @@ pub fn closed_face(
     if outer < counts.len() {
         part_first(counts, outer, 1, out_counts);
     }
+    // `part` and not a range, as there may be fewer areas than counts.
     part_first(part(areas, 0, counts.len()), outer, 1, out_areas);
 }

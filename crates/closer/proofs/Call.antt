@@ -2,15 +2,12 @@
 use Prim.Native.Nat.{ℕ, ◌≤◌, ◌<◌, min}
 use mathlib.Core.Path.{◌≡◌, sym, ap, ◌∙◌, subst}
 use mathlib.Core.List.{List, ◌++◌}
-use lib.Ieee.{Float}
 use native.Mathlib.Omega.{arith}
 use mir.Syntax.{w8}
 use mir.Val.{Fits}
 use borrow.Author.Tests.{lt-ltb, le-ltb}
 use lib.ListN.{length, get_or, take, length-map}
-use Rattle.std.specs.Prelude.{Option, Result, Ok, Err}
-use Rattle.std.specs.Option.{unwrap_or}
-use Rattle.tables.specs.declared.corners.Corner.{Corner as Held}
+use Rattle.std.specs.Prelude.{Result, Ok, Err}
 use Rattle.records.specs.declared.refusal.Refusal.{Refusal}
 use Rattle.records.specs.declared.refusal.Refusal.TheVariants.{TooFewLent, WrongHeader}
 use Rattle.records.specs.declared.limits.Limits.{Limits}
@@ -32,9 +29,9 @@ use Rattle.call.proofs.Demands.{demand_1, demand_3, strip_short}
 use Rattle.magnitudes.specs.Bounded.{ResultBounded}
 use Rattle.magnitudes.proofs.Still.{whole_demand}
 use Rattle.magnitudes.proofs.Theorem.{result_bounded}
-use Rattle.results.specs.declared.Path.{Path}
 use Rattle.results.specs.Written.{path_of, WrittenTo}
 use Rattle.filling.specs.declared.face.FilledFace.{FilledFace}
+use Rattle.filling.specs.declared.result_loops.ResultLoops.{ResultLoops}
 use Rattle.filling.specs.Filled.{HoldsResult, FillsTo}
 use Rattle.closer.specs.Returned.{Tells, code_of, value_of, WrittenBytes}
 use Rattle.closer.proofs.Numbers.{code_is, value_is}
@@ -59,15 +56,6 @@ module _ (s old : List ℕ) (byte : Fits w8 (get_or s 2 0)) where
         h.answer,
         (n, (rw (c, v, n) (demand_1 s old loops-byte), (rw (c, n) (demand_3 s old), (rw (c, n) (whole_demand s old), rw (c, n) (result_bounded s old))))),
       )
-
--- what is promised of an answer, of the two numbers that are told of it
-pub paired : (o : Outcome) (s old : List ℕ) (r : Result ℕ Refusal) {new : List ℕ} {number at : ℕ} → number ≡ code_of r → at ≡ value_of r
-    → Tells r o × ((new ≡ lent_after o old) × Claims s old (code_of r) (value_of r) new)
-    → (number ≡ code o) × ((at ≡ value o) × ((new ≡ lent_after o old) × Claims s old number at new))
-paired o s old r {new} n v h = (
-  n ∙ code_is o r h.0,
-  (v ∙ value_is o r h.0, (h.1.0, rw (n, v) h.1.1)),
-)
 
 -- the conditions of the record, by the limits of version 1: those behind refusal 1
 abbrev behind_lent : List Condition
@@ -95,22 +83,22 @@ module _ (old s : List ℕ) where
     unfolding verdict
     header_refused p is = refused_by _ (WrongHeader p) (judge_is (refuses 2 p) (rw (sym is))) old
 
-    module _ (counts : List ℕ) (areas : List Float) (t : List Held) where
-      pub face_refused : (r : Refusal) → FillsTo (verdict behind_lent s) s (Err r) counts areas t → AnswersTo (judge (length old) s) (Err r) old old
+    module _ (out : ResultLoops) where
+      pub face_refused : (r : Refusal) → FillsTo (verdict behind_lent s) s (Err r) out → AnswersTo (judge (length old) s) (Err r) old old
       face_refused r f = refused_by _ r (judge_is (refuses (refusal_number r) (refusal_place r)) (sym f.answer)) old
 
-      module _ (filled : FilledFace) (f : FillsTo (verdict behind_lent s) s (Ok filled) counts areas t) where
+      module _ (filled : FilledFace) (f : FillsTo (verdict behind_lent s) s (Ok filled) out) where
         passed : verdict behind_lent s ≡ passes
         passed = sym f.answer
 
         many : filled.loops ≡ length (result_loops s)
         many = ap (λ (k : FilledFace). k.loops) f.face
 
-        held : HoldsResult (result_loops s) (take filled.loops counts) areas t
-        held = subst (λ (k : ℕ). HoldsResult (result_loops s) (take k counts) areas t) (sym many) (f.holds passed)
+        held : HoldsResult (result_loops s) (take filled.loops out.counts) out.areas out.corners
+        held = subst (λ (k : ℕ). HoldsResult (result_loops s) (take k out.counts) out.areas out.corners) (sym many) (f.holds passed)
 
-        counts_there_lem : filled.loops ≤ length counts
-        counts_there_lem = front_full filled.loops counts (ap length held.counts_are ∙ length-map (result_loops s) count_of ∙ sym many)
+        counts_there_lem : filled.loops ≤ length out.counts
+        counts_there_lem = front_full filled.loops out.counts (ap length held.counts_are ∙ length-map (result_loops s) count_of ∙ sym many)
 
         free : NoneHolds (all_conditions (length old)) s
         free = (verdict-passes s (all_conditions (length old))).0 (lent-passes ∙ passed)
@@ -118,17 +106,11 @@ module _ (old s : List ℕ) where
         accepted : Accepted version1 s
         accepted = (accepted_exactly s version1).0 (first_passes s (later_conditions version1) (record_conditions version1) passed)
 
-        pub face-closed : (new : List ℕ) (k : ℕ) → WrittenBytes filled.path filled.loops counts areas t old new k → AnswersTo (judge (length old) s) (Ok k) old new
+        pub face-closed : (new : List ℕ) (k : ℕ) → WrittenBytes filled.path filled.loops out.counts out.areas out.corners old new k → AnswersTo (judge (length old) s) (Ok k) old new
         face-closed new k w =
-            let few : min filled.loops (length counts) ≡ filled.loops = let c = counts_there_lem in omega arith in
-            let to : WrittenTo filled.path (take filled.loops counts) areas t old new w.written =
-            subst (λ (m : ℕ). WrittenTo filled.path (take m counts) areas t old new w.written) few w.written_to in
+            let few : min filled.loops (length out.counts) ≡ filled.loops = let c = counts_there_lem in omega arith in
+            let to : WrittenTo filled.path (take filled.loops out.counts) out.areas out.corners old new w.written =
+            subst (λ (m : ℕ). WrittenTo filled.path (take m out.counts) out.areas out.corners old new w.written) few w.written_to in
             subst (λ (o : Outcome). AnswersTo o (Ok k) old new) (sym (judge_is passes passed))
             (result-written version1 version1_encodable s accepted.loops_are accepted.total (strip_short version1 (length old) s free)
-            filled.path (ap (λ (k : FilledFace). path_of k.path) f.face ∙ path-taken s) (take filled.loops counts) areas t held old enough new w.written k to w.bytes)
-
--- the bytes of a result with l of its counts
-pub bytes_told : (path : Path) (loops : ℕ) (counts : List ℕ) (areas : List Float) (t : List Held) (old new : List ℕ) (r l : ℕ) → l ≡ min loops (length counts)
-    → (w : Option ℕ) → WrittenTo path (take l counts) areas t old new w → r ≡ unwrap_or w 0 → WrittenBytes path loops counts areas t old new r
-bytes_told path loops counts areas t old new r l l_is w to bytes =
-    record { written = w; written_to = subst (λ (m : ℕ). WrittenTo path (take m counts) areas t old new w) l_is to; bytes = bytes }
+            filled.path (ap (λ (k : FilledFace). path_of k.path) f.face ∙ path-taken s) (take filled.loops out.counts) out.areas out.corners held old enough new w.written k to w.bytes)

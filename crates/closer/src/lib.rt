@@ -9,40 +9,21 @@ ghost use Rattle.magnitudes.specs.Bounded.{ResultBounded};
 ghost use Rattle.closer.specs.Returned.{Tells, code_of, value_of, WrittenBytes};
 
 use filling::face::{FilledFace, fill_face};
+use filling::result_loops::ResultLoops;
 use records::check::wrong_header;
 use records::limits::version1;
 use records::refusal::Refusal;
 use results::write_result;
-use tables::corners::{Corner, ORIGIN};
 
 pub mod entry;
 
-// A result of so many loops, written into the front of the lent bytes. Answers how many it takes, none
-// where something is too short.
-fn write_loops(
-    face: FilledFace,
-    counts: &[usize],
-    areas: &[f64],
-    t: &[Corner],
-    res: &mut [u8],
-) -> usize
-    ensures { WrittenBytes face.path face.loops counts.now areas.now t.now res.old res.new result }
+// What filling leaves, written into the front of the lent bytes. Answers how many it takes, none where
+// something is too short.
+fn write_filled(face: FilledFace, out: &ResultLoops, res: &mut [u8]) -> usize
+    ensures { WrittenBytes face.path face.loops out.now.counts out.now.areas out.now.corners res.old res.new result }
 {
-    let l = face.loops.min(counts.len());
-    write_result(face.path, &counts[..l], areas, t, res).unwrap_or(0)
-}
-
-// What filling leaves in its arrays, written.
-fn write_filled(
-    face: FilledFace,
-    counts: &[usize; 16],
-    areas: &[f64; 16],
-    t: &[Corner; 1536],
-    res: &mut [u8],
-) -> usize
-    ensures { WrittenBytes face.path face.loops counts.now areas.now t.now res.old res.new result }
-{
-    write_loops(face, counts, areas, t, res)
+    let l = face.loops.min(out.counts.len());
+    write_result(face.path, &out.counts[..l], &out.areas, &out.corners, res).unwrap_or(0)
 }
 
 // The face record is closed into the front of the lent bytes, and the length of the result record is
@@ -67,9 +48,7 @@ pub fn close_face(record: &[u8], res: &mut [u8]) -> Result<usize, Refusal>
     if let Some(place) = wrong_header(record) {
         return Err(Refusal::WrongHeader(place));
     }
-    let mut t = [ORIGIN; 1536];
-    let mut counts = [0; 16];
-    let mut areas = [0.0; 16];
-    let filled = fill_face(record, &mut t, &mut counts, &mut areas)?;
-    Ok(write_filled(filled, &counts, &areas, &t, res))
+    let mut out = ResultLoops::empty();
+    let filled = fill_face(record, &mut out)?;
+    Ok(write_filled(filled, &out, res))
 }

@@ -179,7 +179,7 @@ module _ (s : List ℕ) (corners : List Held) (given : List ℕ) (loops : List L
             (omega arith, omega arith)
 
     pub filled_long : (c : TooMany) (counts : List ℕ) (areas : List Float) → r ≡ Err c
-        → FillsTo (verdict (strip_conditions version1) s) s (Err (LongStrip c.corners)) counts areas t
+        → FillsTo (verdict (strip_conditions version1) s) s (Err (LongStrip c.corners)) (record { corners = t; counts = counts; areas = areas })
     filled_long c counts areas e =
         let l = too_long c e in
         record {
@@ -223,7 +223,7 @@ module _ (s : List ℕ) (corners : List Held) (given : List ℕ) (loops : List L
     pub filled_short : (t' : List Held) (counts counts' : List ℕ) (areas areas' : List Float) (m : ℕ) → length (set counts 0 n) ≡ 16 → length (set areas 0 area) ≡ 16
         → rows t' ≡ placed n (rows held) (rows t) → counts' ≡ placed 1 (others a b given) (set counts 0 n)
         → areas' ≡ placed 1 (others a b (map signed_area (pieces given (rows corners)))) (set areas 0 area) → m ≡ length given - 1
-        → FillsTo (verdict (strip_conditions version1) s) s (Ok (record { path = Wrapped; loops = m })) counts' areas' t'
+        → FillsTo (verdict (strip_conditions version1) s) s (Ok (record { path = Wrapped; loops = m })) (record { corners = t'; counts = counts'; areas = areas' })
     filled_short t' counts counts' areas areas' m in_counts in-areas put-rows put-counts put-areas m_is =
         let two-less = holes-two_less s corners given loops patch sense a b f in
         let lengths = ap length picked ∙ length-map g.holes length in

@@ -5,7 +5,6 @@ use mathlib.Core.Bool.{Bool}
 use mathlib.Core.List.{List}
 use native.Mathlib.Omega.{arith}
 use borrow.Author.Tests.{le-leb, le-ltb}
-use lib.Ieee.{Float}
 use lib.ListN.{length}
 use Rattle.numbers.specs.declared.math.Vec3.{Vec3}
 use Rattle.lists.specs.Pieces.{pieces}
@@ -17,7 +16,7 @@ use Rattle.bands.specs.Given.{Given}
 use Rattle.bands.specs.Rings.{Face, laid, reseam, started, trial}
 use Rattle.bands.specs.Strip.{Setting}
 use Rattle.bands.specs.Band.{goes_with, joined, holes}
-use Rattle.strip.specs.Closing.{closing_of, closed_into, room_for}
+use Rattle.strip.specs.Closing.{closing_of, closed_into}
 use Rattle.std.specs.Prelude.{Result}
 use Rattle.strip.specs.declared.closing.Closed.{Closed}
 use Rattle.strip.specs.declared.closing.TooMany.{TooMany}

@@ -102,7 +102,7 @@ module _ (s : List ℕ) (a : Accepted version1 s) (some : 0 < loops s) (none : w
           → rows t ≡ placed 0 (flatten (part_first found 1 (pieces given r'))) (rows t₀)
           → c ≡ cond (ltb found (length given)) (placed 0 (part_first found 1 given) c₀) c₀
           → x ≡ placed 0 (part_first found 1 (take (length given) a')) x₀
-          → length t₀ ≡ 1536 → length c₀ ≡ 16 → length x₀ ≡ 16 → FillsTo passes s (Ok (record { path = Closed; loops = length given })) c x t)
+          → length t₀ ≡ 1536 → length c₀ ≡ 16 → length x₀ ≡ 16 → FillsTo passes s (Ok (record { path = Closed; loops = length given })) (record { corners = t; counts = c; areas = x }))
       closed_filled r' a' t₀ t c₀ c x₀ x r-then a-left t_is c_is x_is t-room c-room x-room =
           let left = closed-result given r m (length boxes) (period_length u) (period_length v) face r' a' (rows t₀) (rows t) c₀ c x₀ x r-then a-left t_is c_is x_is in
           let fine = result_fine version1 version1_encodable s a.loops_are a.total (λ wraps. absurd (wraps none)) in

@@ -1,15 +1,12 @@
 -- The number of a loop that is found, the sign of a travel, and both rings.
 use Prim.Native.Nat.{ℕ}
-use mathlib.Core.Path.{◌≡◌, refl, sym, ap, ◌∙◌}
+use mathlib.Core.Path.{◌≡◌, sym, ap, ◌∙◌}
 use mathlib.Core.Bool.{Bool}
 use mathlib.Core.List.{List}
-use native.Mathlib.Omega.{arith}
-use borrow.Author.Tests.{le-ltb}
 use mir.Syntax.{w32}
 use mir.Val.{of_z, to_z, SFits}
 use mir.Facts.{to_z-of_z}
-use lib.Signed.{lt_z}
-use lib.IntN.{ℤ, pos, negsuc}
+use lib.IntN.{ℤ}
 use lib.Ieee.{Float}
 use lib.ListN.{length, replicate}
 use Rattle.surfaces.specs.declared.patch.Patch.{Patch}
@@ -29,20 +26,13 @@ use Rattle.records.specs.Refusals.{at, first_where}
 use Rattle.records.specs.Refusals as Sought
 use Rattle.std.specs.Prelude.{Option, Some, None}
 use Rattle.std.specs.Option.{unwrap_or}
-use Rattle.call.specs.Face.{frame_in, surface_in, options_in, sense_in, wrapping, wraps_in}
+use Rattle.call.specs.Face.{sense_in, wrapping, wraps_in}
 use Rattle.loop_records.specs.Loops.{records_from}
 use Rattle.call.specs.Later.{wraps_at}
 use Rattle.measuring.specs.LastWhere.{last_where}
 use Rattle.holes.specs.Others.{others}
 use Rattle.filling.specs.Band.{patch_in, BandFace}
 use Rattle.filling.proofs.TwoRings.{some_first, some_last}
-
-negative : (z : ℤ) → lt_z z (pos 0) ≡ falls z
-negative (pos n) = le-ltb n 0 (omega arith)
-negative (negsuc n) = refl
-
-pub falls_by : (z : ℤ) → SFits w32 z → lt_z (to_z w32 (of_z w32 z)) (pos 0) ≡ falls z
-falls_by z f = ap (λ (x : ℤ). lt_z x (pos 0)) (to_z-of_z f) ∙ negative z
 
 -- the areas that are picked are those of the loops
 pub areas-put : (a b : ℕ) (m m' dst dst' : List Float) → m ≡ m' → dst' ≡ placed 1 (others a b m) dst → dst' ≡ placed 1 (others a b m') dst

@@ -46,7 +46,7 @@ set_front x (y ∷ l) h = sym (placed-fits 0 (x ∷ []) (y ∷ l) h)
 
 -- a face that is closed
 pub filled_by_lem : (s : List ℕ) (path : Path) (ls : List ResultLoop) (n : ℕ) (counts : List ℕ) (areas : List Float) (t : List Held) → path ≡ path_taken s → ls ≡ result_loops s → n ≡ length ls
-    → HoldsResult ls (take (length ls) counts) areas t → FillsTo passes s (Ok (record { path = path; loops = n })) counts areas t
+    → HoldsResult ls (take (length ls) counts) areas t → FillsTo passes s (Ok (record { path = path; loops = n })) (record { corners = t; counts = counts; areas = areas })
 filled_by_lem s path ls n counts areas t path_is ls_is n_is h = record {
   answer = refl;
   face = λ i. record { path = path_is i; loops = (n_is ∙ ap length ls_is) i };

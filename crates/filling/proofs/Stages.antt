@@ -29,7 +29,7 @@ use Rattle.records.proofs.Accepted.{accepted_exactly}
 use Rattle.records.proofs.Columns.{length-counts}
 use Rattle.records.proofs.Refused.{verdict-passes}
 use Rattle.records.specs.Limits.{version1}
-use Rattle.call.specs.Face.{surface_of, measured_in, is_wrapping, wrapping, surface_in, frame_in, options_in, sense_in, loops_in, wraps_in}
+use Rattle.call.specs.Face.{surface_of, measured_in, is_wrapping, wrapping, surface_in, sense_in, loops_in, wraps_in}
 use Rattle.call.specs.Paths.{signed_area}
 use Rattle.call.specs.Later.{long_strip, wrapping_of, ring_conditions, strip_conditions}
 use Rattle.call.proofs.Demands.{two_wrap}
@@ -45,6 +45,7 @@ use Rattle.std.specs.Prelude.{Result, Err}
 use Rattle.records.specs.declared.refusal.Refusal.{Refusal}
 use Rattle.records.specs.Answers.{refusal_number, refusal_place}
 use Rattle.filling.specs.declared.face.FilledFace.{FilledFace}
+use Rattle.filling.specs.declared.result_loops.ResultLoops.{ResultLoops}
 use Rattle.filling.specs.Filled.{FillsTo}
 use Rattle.filling.specs.Stages.{ReadAs}
 
@@ -72,9 +73,9 @@ module _ (s : List ℕ) (ds : List Condition) where
       by_place (at k) h ih = absurd (let z : ◌≡◌ {A = ℕ} 0 1 = cc in omega arith)
 
 -- a refusal is filled so, whatever the lent tables hold
-pub refused_by : (v : Verdict) (s : List ℕ) (r : Refusal) → refuses (refusal_number r) (refusal_place r) ≡ v → (counts : List ℕ) (areas : List Float) (t : List Held)
-    → FillsTo v s (Err r) counts areas t
-refused_by v s r e counts areas t = record {
+pub refused_by : (v : Verdict) (s : List ℕ) (r : Refusal) → refuses (refusal_number r) (refusal_place r) ≡ v → (out : ResultLoops)
+    → FillsTo v s (Err r) out
+refused_by v s r e out = record {
   answer = e;
   face = tt;
   holds = λ f. let d : refuses (refusal_number r) (refusal_place r) ≡ passes = e ∙ f in absurd (let z : ◌≡◌ {A = ℕ} 0 1 = cc in omega arith);
@@ -83,13 +84,13 @@ refused_by v s r e counts areas t = record {
 -- ---- cs are judged first
 
 module _ (s : List ℕ) (cs ds : List Condition) where
-  pub refused_as : (r : Refusal) → refuses (refusal_number r) (refusal_place r) ≡ verdict cs s → (counts : List ℕ) (areas : List Float) (t : List Held)
-      → FillsTo (verdict (cs ++ ds) s) s (Err r) counts areas t
-  refused_as r e counts areas t = refused_by _ s r (sym (first_refuse s ds cs _ _ (sym e))) counts areas t
+  pub refused_as : (r : Refusal) → refuses (refusal_number r) (refusal_place r) ≡ verdict cs s → (out : ResultLoops)
+      → FillsTo (verdict (cs ++ ds) s) s (Err r) out
+  refused_as r e out = refused_by _ s r (sym (first_refuse s ds cs _ _ (sym e))) out
 
-  pub filled_as : passes ≡ verdict cs s → (r : Result FilledFace Refusal) (counts : List ℕ) (areas : List Float) (t : List Held) → FillsTo (verdict ds s) s r counts areas t
-      → FillsTo (verdict (cs ++ ds) s) s r counts areas t
-  filled_as e r counts areas t = subst (λ (v : Verdict). FillsTo v s r counts areas t) (sym (first_pass s ds cs (sym e)))
+  pub filled_as : passes ≡ verdict cs s → (r : Result FilledFace Refusal) (out : ResultLoops) → FillsTo (verdict ds s) s r out
+      → FillsTo (verdict (cs ++ ds) s) s r out
+  filled_as e r out = subst (λ (v : Verdict). FillsTo v s r out) (sym (first_pass s ds cs (sym e)))
 
 pub accepted_as : (s : List ℕ) → passes ≡ verdict (record_conditions version1) s → Accepted version1 s
 accepted_as s e = (accepted_exactly s version1).0 (sym e)
@@ -143,11 +144,11 @@ module _ (s : List ℕ) (a : Accepted version1 s) (head : List Float) (counts : 
   unfolding sense_in
   sense_in_lem sense sense_is = ap (λ (k : ℕ). k =? 1) sense_is
 
-  module _ (r : Result FilledFace Refusal) (counts' : List ℕ) (areas' : List Float) (t' : List Held) (f : FillsTo passes s r counts' areas' t') where
-    unwrapped : wrapping s ≡ 0 → FillsTo (verdict (strip_conditions version1) s) s r counts' areas' t'
-    unwrapped e = subst (λ (v : Verdict). FillsTo v s r counts' areas' t') (no_strip (λ two. omega arith)) f
+  module _ (r : Result FilledFace Refusal) (out : ResultLoops) (f : FillsTo passes s r out) where
+    unwrapped : wrapping s ≡ 0 → FillsTo (verdict (strip_conditions version1) s) s r out
+    unwrapped e = subst (λ (v : Verdict). FillsTo v s r out) (no_strip (λ two. omega arith)) f
 
-    pub whole_filled : length counts ≡ 0 → FillsTo (verdict (strip_conditions version1) s) s r counts' areas' t'
+    pub whole_filled : length counts ≡ 0 → FillsTo (verdict (strip_conditions version1) s) s r out
     whole_filled e = unwrapped (none_of_none (no_loops e))
 
   module _ (wraps : List ℤ) (wraps_are : wraps ≡ wraps_in s) (n : ℕ) (n_is : n ≡ wrapping_of wraps) where
@@ -157,9 +158,9 @@ module _ (s : List ℕ) (a : Accepted version1 s) (head : List Float) (counts : 
     pub none-wraps : n ≡ 0 → wrapping s ≡ 0
     none-wraps e = wrap_many ∙ e
 
-    pub closed_filled : n ≡ 0 → (r : Result FilledFace Refusal) (counts' : List ℕ) (areas' : List Float) (t' : List Held) → FillsTo passes s r counts' areas' t'
-        → FillsTo (verdict (strip_conditions version1) s) s r counts' areas' t'
-    closed_filled e r counts' areas' t' f = unwrapped r counts' areas' t' f (none-wraps e)
+    pub closed_filled : n ≡ 0 → (r : Result FilledFace Refusal) (out : ResultLoops) → FillsTo passes s r out
+        → FillsTo (verdict (strip_conditions version1) s) s r out
+    closed_filled e r out f = unwrapped r out f (none-wraps e)
 
     pub band-wraps : verdict ring_conditions s ≡ passes → (n ≡ 0 → ⊥) → wrapping s ≡ 2
     band-wraps e h = let none = (verdict-passes s ring_conditions).0 e in two_wrap s (none 1) (none 2) (λ z. h (sym wrap_many ∙ z))

@@ -54,7 +54,7 @@ module _ (s : List ℕ) (bare : loops s ≡ 0) (patch : Patch) (patch_is : patch
 
   pub whole_filled : (c₀ c : List ℕ) (a₀ a : List Float) (t₀ t : List Held) (n : ℕ) (area : Float) → n ≡ length (whole_corners surface options) → area ≡ area_within (length (rows t₀)) surface options
       → c ≡ set c₀ 0 n → a ≡ set a₀ 0 area → rows t ≡ placed 0 (whole_rows surface frame options) (rows t₀)
-      → length c₀ ≡ 16 → length a₀ ≡ 16 → length t₀ ≡ 1536 → FillsTo passes s (Ok (record { path = Whole; loops = 1 })) c a t
+      → length c₀ ≡ 16 → length a₀ ≡ 16 → length t₀ ≡ 1536 → FillsTo passes s (Ok (record { path = Whole; loops = 1 })) (record { corners = t; counts = c; areas = a })
   unfolding corners_of
   whole_filled c₀ c a₀ a t₀ t n area n_is area_is c_is a_is t_is c-room a-room t-room =
       let few = few-corners surface options in

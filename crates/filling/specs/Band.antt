@@ -1,5 +1,5 @@
 -- The band between two rings, closed into a table. The sentences are those of 01, "Bands", where no other place is named.
-use Rattle.std.specs.Prelude.{ℕ, ◌≤◌, ◌≡◌, Bool, cond, List, leb, Float, length, take, replicate, Result, Ok, Err}
+use Rattle.std.specs.Prelude.{ℕ, ◌≤◌, ◌≡◌, Bool, cond, List, leb, length, take, replicate, Result, Ok, Err}
 use Rattle.numbers.specs.declared.math.Vec3.{Vec3}
 use Rattle.surfaces.specs.declared.patch.Patch.{Patch}
 use Rattle.surfaces.specs.Domains.{u_period}

@@ -14,6 +14,7 @@ use Rattle.results.specs.declared.Path.TheVariants.{Closed, Wrapped, Whole}
 use Rattle.call.specs.Face.{wrapping}
 use Rattle.call.specs.Paths.{ResultLoop, result_loops}
 use Rattle.filling.specs.declared.face.FilledFace.{FilledFace}
+use Rattle.filling.specs.declared.result_loops.ResultLoops.{ResultLoops}
 
 -- the loops of a result, outer loop first: one count and one area each, and the corners of all in the front of a table
 pub record HoldsResult (ls : List ResultLoop) (counts : List ℕ) (areas : List Float) (t : List Held) : Type 0 where
@@ -31,7 +32,7 @@ filled_by s = record { path = path_taken s; loops = length (result_loops s) }
 
 -- v is what the conditions say of the record s: so it is answered, by the number of a refusal and its place. Nothing is said of what stands
 -- behind the result, nor, where the face is refused, of what was lent.
-pub record FillsTo (v : Verdict) (s : List ℕ) (r : Result FilledFace Refusal) (counts : List ℕ) (areas : List Float) (t : List Held) : Type 0 where
+pub record FillsTo (v : Verdict) (s : List ℕ) (r : Result FilledFace Refusal) (out : ResultLoops) : Type 0 where
   pub answer : verdict_of r ≡ v
   pub face : IfOk r (λ f. f ≡ filled_by s)
-  pub holds : v ≡ passes → HoldsResult (result_loops s) (take (length (result_loops s)) counts) areas t
+  pub holds : v ≡ passes → HoldsResult (result_loops s) (take (length (result_loops s)) out.counts) out.areas out.corners

@@ -1,3 +1,4 @@
 pub mod Filled
 pub mod Stages
 pub mod Band
+pub mod ResultLoops

@@ -1,4 +1,4 @@
-// A face record filled into lent tables.
+// A face record filled into lent arrays.
 ghost use Rattle.std.specs.Prelude.{◌≡◌, ◌++◌, map, replicate};
 ghost use Rattle.lists.specs.Pieces.{pieces};
 ghost use Rattle.lists.specs.Placed.{placed};
@@ -17,10 +17,9 @@ ghost use Rattle.filling.specs.Stages.{ReadAs};
 ghost use Rattle.measuring.specs.Head.{frame_at, options_at};
 ghost use Rattle.records.specs.Face.{segments};
 
+use super::result_loops::ResultLoops;
 use super::ring_refusals::check_rings;
 use super::{fill_band, fill_closed, fill_whole};
-use closed_region::boxes::Bounds;
-use closed_region::outer::empty_box;
 use loop_records::measure::measure_loops;
 use loop_records::{LoopRecord, areas_of, wraps_of};
 use measuring::head::{frame_of, options_of, surface_of};
@@ -64,23 +63,20 @@ fn fill_path(
     loops: &[LoopRecord],
     wraps: &[i32],
     measured: &mut [f64],
-    boxes: &mut [Bounds; 16],
     surface: Surface,
-    t: &mut [Corner; 1536],
-    counts: &mut [usize; 16],
-    areas: &mut [f64; 16],
+    out: &mut ResultLoops,
 ) -> Result<FilledFace, Refusal>
     ensures { Accepted version1 face.now → ReadAs face.now head.now given.now corners.old
         → loops.now ≡ placed 0 (records_from (u_period surface) 0 (pieces given.now (rows corners.old))) (replicate 16 no_loop)
         → wraps.now ≡ wraps_in face.now → measured.old ≡ map signed_area (pieces given.now (rows corners.old))
         → surface ≡ surface_in face.now → verdict ring_conditions face.now ≡ passes
-        → FillsTo (verdict (strip_conditions version1) face.now) face.now result counts.new areas.new t.new }
+        → FillsTo (verdict (strip_conditions version1) face.now) face.now result out.new }
 {
     if given.len() == 0 {
-        return Ok(fill_whole(patch_of(face, head, surface), t, counts, areas));
+        return Ok(fill_whole(patch_of(face, head, surface), out));
     }
     if wrapping_count(wraps) == 0 {
-        return Ok(fill_closed(corners, given, measured, boxes, surface, t, counts, areas));
+        return Ok(fill_closed(corners, given, measured, surface, out));
     }
     fill_band(
         corners,
@@ -90,61 +86,48 @@ fn fill_path(
         measured,
         patch_of(face, head, surface),
         sense(face) == 1,
-        t,
-        counts,
-        areas,
+        out,
     )
 }
 
 // A record that the refusals 2 to 7 let pass: it is read, its loops are measured, the refusals 8 to 11
 // tested, and its path taken, which may refuse by 12.
-fn fill_record(
-    face: &[u8],
-    t: &mut [Corner; 1536],
-    counts: &mut [usize; 16],
-    areas: &mut [f64; 16],
-) -> Result<FilledFace, Refusal>
-    ensures { Accepted version1 face.now → FillsTo (verdict (later_conditions version1) face.now) face.now result counts.new areas.new t.new }
+fn fill_record(face: &[u8], out: &mut ResultLoops) -> Result<FilledFace, Refusal>
+    ensures { Accepted version1 face.now → FillsTo (verdict (later_conditions version1) face.now) face.now result out.new }
 {
     let mut head = [0.0; 13];
     let mut given = [0; 16];
     let mut corners = [ORIGIN; 512];
-    let mut boxes = [empty_box(); 16];
     read_head(face, &mut head);
     let l = read_counts(face, &mut given).unwrap_or(0);
     let e = read_corners(face, &mut corners).unwrap_or(0);
+    let given = &given[..l];
+    let corners = &mut corners[..e];
     let surface = surface_of(kind(face), at(&head, 9), at(&head, 10));
-    let loops = measure_loops(&corners[..e], &given[..l], surface.u_period());
+    let loops = measure_loops(corners, given, surface.u_period());
+    // The refusals and the comparison speak of a list of wraps, and the closed path changes the areas
+    // where they are: both stand beside the records.
     let wraps = wraps_of(loops);
+    let wraps = &wraps[..l];
     let mut measured = areas_of(loops);
-    check_rings(kind(face), &corners[..e], &given[..l], &wraps[..l])?;
+    check_rings(kind(face), corners, given, wraps)?;
     fill_path(
         face,
         &head,
-        &given[..l],
-        &mut corners[..e],
+        given,
+        corners,
         &loops,
-        &wraps[..l],
+        wraps,
         &mut measured[..l],
-        &mut boxes,
         surface,
-        t,
-        counts,
-        areas,
+        out,
     )
 }
 
-// The face of a record closed into lent tables: the corners of its result in the front of t, outer
-// loop first, a count and an area of each loop in the front of the others; or refused. What stands
-// behind the result is free.
-pub fn fill_face(
-    face: &[u8],
-    t: &mut [Corner; 1536],
-    counts: &mut [usize; 16],
-    areas: &mut [f64; 16],
-) -> Result<FilledFace, Refusal>
-    ensures { FillsTo (verdict (record_conditions version1 ++ later_conditions version1) face.now) face.now result counts.new areas.new t.new }
+// The face of a record closed into what is lent, or refused.
+pub fn fill_face(face: &[u8], out: &mut ResultLoops) -> Result<FilledFace, Refusal>
+    ensures { FillsTo (verdict (record_conditions version1 ++ later_conditions version1) face.now) face.now result out.new }
 {
     check(face, version1())?;
-    fill_record(face, t, counts, areas)
+    fill_record(face, out)
 }

@@ -1,4 +1,4 @@
-// A face closed into lent tables, by each of the three paths: filling is apart from writing, so that
+// A face closed into lent arrays, by each of the three paths: filling is apart from writing, so that
 // a result exists outside bytes. The steps here are those of `face`.
 #![tactic(auto)]
 
@@ -24,7 +24,7 @@ ghost use Rattle.call.specs.Paths.{signed_area};
 ghost use Rattle.filling.specs.Band.{patch_in, BandIs, BandFace};
 
 use closed_face::face::closed_face;
-use closed_region::boxes::Bounds;
+use closed_region::outer::empty_box;
 use face::FilledFace;
 use full_domain::boundary::full_domain_count;
 use full_domain::table::full_domain_loop;
@@ -37,6 +37,7 @@ use loop_records::LoopRecord;
 use loop_records::ring::ring_of;
 use measuring::refusals::{first_wrapping, last_wrapping};
 use records::refusal::Refusal;
+use result_loops::ResultLoops;
 use results::Path;
 use seam::gap::Span;
 use strip::closing::{Closed, TooMany};
@@ -48,20 +49,16 @@ use wrapped_region::order::goes_with;
 use wrapped_region::ordered::close_ordered;
 
 pub mod face;
+pub mod result_loops;
 pub mod ring_refusals;
 
 // The whole path: a sphere or a torus that no loop trims.
-fn fill_whole(
-    patch: Patch,
-    t: &mut [Corner; 1536],
-    counts: &mut [usize; 16],
-    areas: &mut [f64; 16],
-) -> FilledFace
+fn fill_whole(patch: Patch, out: &mut ResultLoops) -> FilledFace
     ensures { (s : List ℕ) → Accepted version1 s → loops_of s ≡ 0 → patch ≡ patch_in s
-        → FillsTo passes s (Ok result) counts.new areas.new t.new }
+        → FillsTo passes s (Ok result) out.new }
 {
-    counts[0] = full_domain_count(patch);
-    areas[0] = full_domain_loop(patch, t);
+    out.counts[0] = full_domain_count(patch);
+    out.areas[0] = full_domain_loop(patch, &mut out.corners);
     FilledFace {
         path: Path::Whole,
         loops: 1,
@@ -73,26 +70,24 @@ fn fill_closed(
     corners: &mut [Corner],
     given: &[usize],
     measured: &mut [f64],
-    boxes: &mut [Bounds; 16],
     surface: Surface,
-    t: &mut [Corner; 1536],
-    counts: &mut [usize; 16],
-    areas: &mut [f64; 16],
+    out: &mut ResultLoops,
 ) -> FilledFace
     ensures { (s : List ℕ) → Accepted version1 s → 0 < loops_of s → wrapping s ≡ 0 → surface ≡ surface_in s
         → given.now ≡ counts_of s → rows corners.old ≡ corners_in s → measured.old ≡ map signed_area (pieces given.now (rows corners.old))
-        → FillsTo passes s (Ok result) counts.new areas.new t.new }
+        → FillsTo passes s (Ok result) out.new }
 {
+    let mut boxes = [empty_box(); 16];
     closed_face(
         corners,
         given,
         measured,
-        boxes,
+        &mut boxes,
         surface.u_period(),
         surface.v_period(),
-        t,
-        counts,
-        areas,
+        &mut out.corners,
+        &mut out.counts,
+        &mut out.areas,
     );
     FilledFace {
         path: Path::Closed,
@@ -202,26 +197,34 @@ fn fill_band(
     measured: &[f64],
     patch: Patch,
     sense: bool,
-    t: &mut [Corner; 1536],
-    counts: &mut [usize; 16],
-    areas: &mut [f64; 16],
+    out: &mut ResultLoops,
 ) -> Result<FilledFace, Refusal>
     ensures { (s : List ℕ) → Accepted version1 s → wrapping s ≡ 2 → given.now ≡ counts_of s → rows corners.now ≡ corners_in s
         → loops.now ≡ placed 0 (records_from (u_period patch.surface) 0 (pieces given.now (rows corners.now))) (replicate 16 no_loop)
         → wraps.now ≡ wraps_in s → measured.now ≡ map signed_area (pieces given.now (rows corners.now)) → patch ≡ patch_in s → sense ≡ sense_in s
-        → FillsTo (verdict (strip_conditions version1) s) s result counts.new areas.new t.new }
+        → FillsTo (verdict (strip_conditions version1) s) s result out.new }
 {
     let mut holes = [ORIGIN; 512];
     let a = last_wrapping(wraps).unwrap_or(0);
     let b = first_wrapping(wraps).unwrap_or(0);
-    let closing = band_of(corners, given, loops, a, b, patch, sense, &mut holes, t);
+    let closing = band_of(
+        corners,
+        given,
+        loops,
+        a,
+        b,
+        patch,
+        sense,
+        &mut holes,
+        &mut out.corners,
+    );
     match closing {
         Ok(closed) => {
-            copy_into(t, closed.count, &holes);
-            counts[0] = closed.count;
-            pick(counts, 1, given, a, b);
-            areas[0] = closed.area;
-            pick(areas, 1, measured, a, b);
+            copy_into(&mut out.corners, closed.count, &holes);
+            out.counts[0] = closed.count;
+            pick(&mut out.counts, 1, given, a, b);
+            out.areas[0] = closed.area;
+            pick(&mut out.areas, 1, measured, a, b);
             Ok(FilledFace {
                 path: Path::Wrapped,
                 loops: given.len().saturating_sub(1),

@@ -1,35 +1,16 @@
 -- The reals before the points, as the code reads them, and that those of a face record are its frame, its surface and its tolerances.
-use Prim.Native.Nat.{ℕ, ◌+◌, ◌<◌}
+use Prim.Native.Nat.{ℕ, ◌<◌}
 use mathlib.Core.Path.{◌≡◌, ap, ◌∙◌}
 use mathlib.Core.List.{List}
 use native.Mathlib.Omega.{arith}
-use lib.Ieee.{Float, nan}
+use lib.Ieee.{nan}
 use lib.ListN.{get_or}
 use Rattle.numbers.specs.Frames.{frame_of}
-use Rattle.numbers.specs.declared.math.Vec3.{Vec3}
-use Rattle.numbers.specs.declared.math.Frame.{Frame}
-use Rattle.surfaces.specs.declared.options.Resolved.{Resolved}
 use Rattle.records.specs.Bytes.{real_at}
 use Rattle.records.specs.Face.{head_reals, kind, segments, head, real_place, real_of}
 use Rattle.records.proofs.Rows.{get_or-row_at}
 use Rattle.call.specs.Face.{surface_of, frame_in, surface_in, options_in}
 use Rattle.measuring.specs.Head.{vector_at, frame_at, options_at}
-
--- ---- as the code reads them
-
-pub vector_is : (h : List Float) (i : ℕ) (x y z : Float) → x ≡ get_or h i nan → y ≡ get_or h (i + 1) nan → z ≡ get_or h (i + 2) nan
-    → ◌≡◌ {A = Vec3} (record { x = x; y = y; z = z }) (vector_at h i)
-unfolding vector_at
-vector_is h i x y z ex ey ez = λ j. record { x = ex j; y = ey j; z = ez j }
-
-pub frame_is : (h : List Float) (o a r : Vec3) (f : Frame) → o ≡ vector_at h 0 → a ≡ vector_at h 3 → r ≡ vector_at h 6 → f ≡ frame_of o a r → f ≡ frame_at h
-unfolding frame_at
-frame_is h o a r f eo ea er e = e ∙ (λ j. frame_of (eo j) (ea j) (er j))
-
-pub options_are : (h : List Float) (n : ℕ) (sag angle : Float) → sag ≡ get_or h 11 nan → angle ≡ get_or h 12 nan
-    → ◌≡◌ {A = Resolved} (record { sag = sag; angle = angle; min_edge_segments = n }) (options_at h n)
-unfolding options_at
-options_are h n sag angle es ea = λ j. record { sag = es j; angle = ea j; min_edge_segments = n }
 
 -- ---- those of a record
 

@@ -1,17 +1,11 @@
 -- The refusals 8 to 11 as the code finds them.
-use Prim.Native.Nat.{ℕ, zero, suc, ◌+◌, ◌-◌, ◌^◌, ◌≤◌, ◌<◌}
+use Prim.Native.Nat.{ℕ, zero, suc, ◌+◌, ◌-◌, ◌≤◌, ◌<◌}
 use mathlib.Core.Path.{◌≡◌, refl, sym, ap, ◌∙◌}
-use mathlib.Core.Bool.{Bool, true, false, cond, not}
+use mathlib.Core.Bool.{Bool, true, false, cond}
 use mathlib.Core.List.{List, [], ◌∷◌}
-use native.Mathlib.Numerals.{add-one}
 use native.Mathlib.Omega.{arith}
-use borrow.Author.Tests.{eq-eqb, ne_eqb}
-use mir.Syntax.{w32}
-use mir.Val.{of_z, SFits, bool_byte}
-use lib.Dec.{eqb}
-use lib.IntN.{ℤ, pos, negsuc}
-use lib.ListN.{length, get_or, drop, drop_of_length-le, length-map, get_or-eq_default, get_or-map}
-use lib.Seq.{drop-cons}
+use lib.IntN.{ℤ, pos}
+use lib.ListN.{length, get_or, length-map, get_or-map}
 use Rattle.numbers.specs.Position.{same}
 use Rattle.numbers.specs.declared.math.Vec3.{Vec3}
 use Rattle.tables.specs.Corners.{Corner, Corners, positions}
@@ -22,26 +16,16 @@ use Rattle.loops.specs.Steps.{last_of}
 use Rattle.lists.specs.Pieces.{pieces}
 use Rattle.bands.specs.Given.{wraps}
 use Rattle.lists.specs.Elements.{only}
-use Rattle.records.specs.Refusals.{Place, nowhere, at, first_where}
-use Rattle.records.proofs.Search.{Seeking, seek_found, seek_end}
-use Rattle.call.specs.Later.{wraps_at, open_at, open_among, wrapping_of, one_among}
+use Rattle.records.specs.Refusals.{nowhere, at, first_where}
+use mathlib.Core.Logic.{◌⊎◌, inl, inr}
+use native.Mathlib.Nat.{eq-or-lt_of_le}
+use Rattle.std.specs.Prelude.{Option, Some, None}
+use Rattle.std.specs.Option.{MatchOption}
+use Rattle.std.specs.List.{AllWithin, HoldsAt, filter}
+use Rattle.records.specs.Answers.{place_of}
+use Rattle.records.proofs.Search.{first_holds, first_fails}
+use Rattle.call.specs.Later.{wraps_at, open_at, open_among, wrapping_of}
 use Rattle.measuring.specs.LastWhere.{last_where}
-
--- ---- a wrap that is not 0: the code compares bits
-
-nonzero : (z : ℤ) → SFits w32 z → not (eqb (of_z w32 z) 0) ≡ wraps z
-nonzero (pos zero) f = refl
-nonzero (pos (suc n)) f = ap not (ne_eqb (suc n) 0 (λ e. omega arith))
-nonzero (negsuc n) f = ap not (ne_eqb (2 ^ 32 - suc n) 0 (λ e. let b = f.sfits in omega arith))
-
-module _ (ws : List ℤ) (k : ℕ) where
-  pub wraps_within : SFits w32 (get_or ws k (pos 0)) → not (eqb (of_z w32 (get_or ws k (pos 0))) 0) ≡ wraps_at ws k
-  unfolding wraps_at
-  wraps_within f = nonzero (get_or ws k (pos 0)) f
-
-  pub wraps-past : length ws ≤ k → false ≡ wraps_at ws k
-  unfolding wraps_at
-  wraps-past h = sym (ap wraps (get_or-eq_default ws (pos 0) {n = k} h))
 
 -- ---- the ends of a loop
 
@@ -78,112 +62,64 @@ module _ (r : Corners Vec3) (n : ℕ) (n_is : n ≡ length r) where
 -- ---- 8
 
 module _ (counts : List ℕ) (r : Corners Vec3) (ws : List ℤ) where
-  module _ (k : ℕ) (t : Bool) (t_is : t ≡ wraps_at ws k) where
-    pub not_wrapping : t ≡ false → false ≡ open_at (pieces counts r) ws k
-    unfolding open_at
-    not_wrapping e = sym (rw (sym t_is ∙ e))
+  -- what `find` says of its answer
+  abbrev Opening : Option ℕ → Type 0
+  Opening p = MatchOption p ((k : ℕ) → 0 ≤ k → k < length counts → open_at (pieces counts r) ws k ≡ false)
+      (λ i. (0 ≤ i) × (i < length counts) × (open_at (pieces counts r) ws i ≡ true) × ((k : ℕ) → 0 ≤ k → k < i → open_at (pieces counts r) ws k ≡ false))
 
-    pub open_unless_closed : t ≡ true → (l : Corners Vec3) → l ≡ get_or (pieces counts r) k [] → (c : Bool) → c ≡ ends_meet same (positions l)
-        → not c ≡ open_at (pieces counts r) ws k
-    unfolding open_at
-    open_unless_closed e l l_is c c_is = ap not (c_is ∙ ap (λ (m : Corners Vec3). ends_meet same (positions m)) l_is) ∙ sym (rw (sym t_is ∙ e))
+  found : (p : Option ℕ) → Opening p → place_of p ≡ first_where (length counts) (open_at (pieces counts r) ws)
+  found None h = sym ((first_fails (open_at (pieces counts r) ws) (length counts)).1 (λ j b. h j (omega arith) b))
+  found (Some i) h =
+      sym ((first_holds (open_at (pieces counts r) ws) (length counts) i).1 (record { inside = h.1; here = h.2; before = λ j b. h.3 j (omega arith) b }))
 
-  abbrev pub Opening : ℕ → Type 0
-  Opening k = Seeking (open_at (pieces counts r) ws) (length counts) k
-
-  many_pieces : length counts ≡ length (pieces counts r)
-  many_pieces = sym (length-pieces counts r)
-
-  pub opening_found : (k : ℕ) → Opening k → k < length counts → open_at (pieces counts r) ws k ≡ true → at k ≡ open_among (pieces counts r) ws
+  pub opening_found : (p : Option ℕ) → Opening p → place_of p ≡ open_among (pieces counts r) ws
   unfolding open_among
-  opening_found k o h e = seek_found o h e ∙ ap (λ (n : ℕ). first_where n (open_at (pieces counts r) ws)) many_pieces
-
-  pub opening_end : (k : ℕ) → Opening k → length counts ≤ k → nowhere ≡ open_among (pieces counts r) ws
-  unfolding open_among
-  opening_end k o h = seek_end o h ∙ ap (λ (n : ℕ). first_where n (open_at (pieces counts r) ws)) many_pieces
+  opening_found p h = found p h ∙ ap (λ (n : ℕ). first_where n (open_at (pieces counts r) ws)) (sym (length-pieces counts r))
 
 -- ---- how many wrap
 
+filter_is : (p : ℤ → Bool) (xs : List ℤ) → filter p xs ≡ only p xs
+unfolding only
+filter_is p [] = refl
+filter_is p (x ∷ xs) = by_test (p x) (filter_is p xs)
+  where
+    by_test : (t : Bool) → filter p xs ≡ only p xs → cond t (x ∷ filter p xs) (filter p xs) ≡ cond t (x ∷ only p xs) (only p xs)
+    by_test true e = ap (λ (l : List ℤ). x ∷ l) e
+    by_test false e = e
+
 module _ (ws : List ℤ) where
-  count-first : (w : ℤ) (l : List ℤ) → wrapping_of (w ∷ l) ≡ bool_byte (wraps w) + wrapping_of l
-  unfolding wrapping_of only
-  count-first w l = by_test (wraps w)
+  pub count_is : length (filter wraps ws) ≡ wrapping_of ws
+  unfolding wrapping_of
+  count_is = ap length (filter_is wraps ws)
+
+  -- ---- the first and the last that wraps, as std finds them
+
+  abbrev None_in : ℕ → ℕ → Type 0
+  None_in from to = AllWithin (λ w. wraps w ≡ false) ws from to
+
+  pub first_found : (r : Option ℕ) → MatchOption r (None_in 0 (length ws)) (λ i. (i < length ws) × HoldsAt (λ w. wraps w ≡ true) ws i × None_in 0 i)
+      → place_of r ≡ first_where (length ws) (wraps_at ws)
+  unfolding wraps_at
+  first_found None h = sym ((first_fails (wraps_at ws) (length ws)).1 (λ j b. h j (pos 0) (omega arith) b))
+  first_found (Some i) h =
+      sym ((first_holds (wraps_at ws) (length ws) i).1 (record { inside = h.0; here = h.1 (pos 0); before = λ j b. h.2 j (pos 0) (omega arith) b }))
+
+  none_last : (n : ℕ) → ((j : ℕ) → j < n → wraps_at ws j ≡ false) → last_where n (wraps_at ws) ≡ nowhere
+  unfolding last_where
+  none_last zero h = refl
+  none_last (suc n) h = rw (h n (omega arith)) (none_last n (λ j b. h j (omega arith)))
+
+  last_at : (n i : ℕ) → i < n → wraps_at ws i ≡ true → ((j : ℕ) → i + 1 ≤ j → j < n → wraps_at ws j ≡ false) → last_where n (wraps_at ws) ≡ at i
+  unfolding last_where
+  last_at zero i b e h = absurd (omega arith)
+  last_at (suc n) i b e h = by_place (eq-or-lt_of_le (omega arith)) (λ l. last_at n i l e (λ j a k. h j a (omega arith)))
     where
-      by_test : (t : Bool) → length (cond t (w ∷ only wraps l) (only wraps l)) ≡ bool_byte t + length (only wraps l)
-      by_test true = omega arith
-      by_test false = omega arith
+      by_place : (i ≡ n) ⊎ (i < n) → (i < n → last_where n (wraps_at ws) ≡ at i) → cond (wraps_at ws n) (at n) (last_where n (wraps_at ws)) ≡ at i
+      by_place (inl q) before = rw (ap (wraps_at ws) (sym q) ∙ e) (ap at (sym q))
+      by_place (inr l) before = rw (h n (omega arith) (omega arith)) (before l)
 
-  count_none : wrapping_of [] ≡ 0
-  unfolding wrapping_of only
-  count_none = refl
-
-  one_or_none : (t : Bool) → bool_byte t ≤ 1
-  one_or_none true = omega arith
-  one_or_none false = omega arith
-
-  pub record Counting (n i : ℕ) : Type 0 where
-    pub far : i ≤ length ws
-    pub few : n ≤ i
-    pub is : wrapping_of ws ≡ n + wrapping_of (drop i ws)
-
-  pub counting : Counting 0 0
-  counting = record { far = omega arith; few = omega arith; is = omega arith }
-
-  module _ (n i : ℕ) (c : Counting n i) (h : i < length ws) (t : Bool) (t_is : t ≡ wraps_at ws i) (b : ℕ) (b_is : b ≡ bool_byte t) where
-    pub counting_few : b ≤ 1
-    counting_few = let e = one_or_none t in omega arith
-
-    next : wrapping_of (drop i ws) ≡ b + wrapping_of (drop (suc i) ws)
-    unfolding wraps_at
-    next =
-        ap wrapping_of (drop-cons ws i (pos 0) h) ∙ count-first (get_or ws i (pos 0)) (drop (suc i) ws)
-        ∙ ap (λ (m : ℕ). m + wrapping_of (drop (suc i) ws)) (ap bool_byte (sym t_is) ∙ sym b_is)
-
-    pub counting_turn : Counting (n + b) (i + 1)
-    counting_turn = record {
-      far = omega arith;
-      few = let e = counting_few in let f = c.few in omega arith;
-      is = rw (add-one i) (let e = next in let d = c.is in omega arith);
-    }
-
-  pub counting_end : (n i : ℕ) → Counting n i → length ws ≤ i → n ≡ wrapping_of ws
-  counting_end n i c h = let e : wrapping_of (drop i ws) ≡ 0 = ap wrapping_of (drop_of_length-le ws {i = i} h) ∙ count_none in let d = c.is in omega arith
-
-  -- ---- the first and the last that wraps
-
-  abbrev pub Finding : ℕ → Type 0
-  Finding k = Seeking (wraps_at ws) (length ws) k
-
-  pub record Falling (k : ℕ) : Type 0 where
-    pub far : k ≤ length ws
-    pub is : last_where (length ws) (wraps_at ws) ≡ last_where k (wraps_at ws)
-
-  pub falling : Falling (length ws)
-  falling = record { far = omega arith; is = refl }
-
-  last_here : (k : ℕ) → 0 < k → last_where k (wraps_at ws) ≡ cond (wraps_at ws (k - 1)) (at (k - 1)) (last_where (k - 1) (wraps_at ws))
-  unfolding last_where
-  last_here zero h = absurd (omega arith)
-  last_here (suc k) h = let e : suc k - 1 ≡ k = omega arith in rw e
-
-  module _ (k : ℕ) (f : Falling k) (h : 0 < k) (t : Bool) (t_is : t ≡ wraps_at ws (k - 1)) where
-    pub falling_found : t ≡ true → at (k - 1) ≡ last_where (length ws) (wraps_at ws)
-    falling_found e = sym (f.is ∙ last_here k h ∙ rw (sym t_is ∙ e))
-
-    pub falling_turn : t ≡ false → Falling (k - 1)
-    falling_turn e = record { far = let m = f.far in omega arith; is = f.is ∙ last_here k h ∙ rw (sym t_is ∙ e) }
-
-  pub falling_end : (k : ℕ) → Falling k → k ≤ 0 → nowhere ≡ last_where (length ws) (wraps_at ws)
-  unfolding last_where
-  falling_end k f h = let e : k ≡ 0 = omega arith in sym (f.is ∙ rw e)
-
-  -- ---- 9
-
-  module _ (n : ℕ) (n_is : n ≡ wrapping_of ws) where
-    pub one_found : n ≡ 1 → (p : Place) → p ≡ first_where (length ws) (wraps_at ws) → p ≡ one_among ws
-    unfolding one_among
-    one_found e p p_is = p_is ∙ sym (rw (eq-eqb (wrapping_of ws) 1 (sym n_is ∙ e)))
-
-    pub not_one : (n ≡ 1 → ⊥) → nowhere ≡ one_among ws
-    unfolding one_among
-    not_one h = sym (rw (ne_eqb (wrapping_of ws) 1 (λ e. h (n_is ∙ e))))
+  pub last_found : (r : Option ℕ) → MatchOption r (None_in 0 (length ws)) (λ i. (i < length ws) × HoldsAt (λ w. wraps w ≡ true) ws i × None_in (i + 1) (length ws))
+      → place_of r ≡ last_where (length ws) (wraps_at ws)
+  unfolding wraps_at
+  last_found None h = sym (none_last (length ws) (λ j b. h j (pos 0) (omega arith) b))
+  last_found (Some i) h = sym (last_at (length ws) i h.0 (h.1 (pos 0)) (λ j a b. h.2 j (pos 0) a b))

@@ -30,6 +30,7 @@ pub fn surface_of(kind: u8, a: f64, b: f64) -> Surface
     }
 }
 
+#[tactic(auto, unfolding(crate::specs::Head::vector_at))]
 fn vector_at(head: &[f64], i: usize) -> Vec3
     requires { i ≤ head_reals }
     ensures { result ≡ vector_at head.now i }
@@ -41,12 +42,14 @@ fn vector_at(head: &[f64], i: usize) -> Vec3
     }
 }
 
+#[tactic(auto, unfolding(crate::specs::Head::frame_at))]
 pub fn frame_of(head: &[f64]) -> Frame
     ensures { result ≡ frame_at head.now }
 {
     Frame::new(vector_at(head, 0), vector_at(head, 3), vector_at(head, 6))
 }
 
+#[tactic(auto, unfolding(crate::specs::Head::options_at))]
 pub fn options_of(head: &[f64], segments: u8) -> Resolved
     ensures { result ≡ options_at head.now segments }
 {

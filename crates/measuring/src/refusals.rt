@@ -1,6 +1,7 @@
 // The refusals 8 to 11, from the wraps of the loops, for 8 with the loops themselves.
 ghost use Rattle.std.specs.Prelude.{◌≡◌, length};
 ghost use Rattle.numbers.specs.Position.{same};
+ghost use Rattle.bands.specs.Given.{wraps};
 ghost use Rattle.lists.specs.Pieces.{pieces};
 ghost use Rattle.tables.specs.Corners.{positions};
 ghost use Rattle.tables.specs.Rows.{rows};
@@ -13,14 +14,22 @@ ghost use Rattle.measuring.specs.LastWhere.{last_where};
 use tables::corners::Corner;
 use tables::pieces::loop_of;
 
+// Whether a loop of this wrap is a ring.
+fn is_ring(wrap: i32) -> bool
+    ensures { result ≡ wraps wrap }
+{
+    wrap != 0
+}
+
 // Whether loop k wraps; past the last one none does.
+#[tactic(auto, unfolding(call::specs::Later::wraps_at))]
 fn wraps_at(wraps: &[i32], k: usize) -> bool
     ensures { result ≡ wraps_at wraps.now k }
 {
-    if k < wraps.len() {
-        return wraps[k] != 0;
+    match wraps.get(k) {
+        Some(&wrap) => is_ring(wrap),
+        None => false,
     }
-    false
 }
 
 // Whether a loop ends where it begins.
@@ -34,61 +43,41 @@ fn ends_meet(t: &[Corner]) -> bool
 }
 
 // Whether loop k wraps and is open.
+#[tactic(auto, unfolding(call::specs::Later::open_at))]
 fn open_at(t: &[Corner], counts: &[usize], wraps: &[i32], k: usize) -> bool
     ensures { result ≡ open_at (pieces counts.now (rows t.now)) wraps.now k }
 {
-    if wraps_at(wraps, k) {
-        return !ends_meet(loop_of(t, counts, k));
-    }
-    false
+    wraps_at(wraps, k) && !ends_meet(loop_of(t, counts, k))
 }
 
 // 8
 pub fn open_ring(t: &[Corner], counts: &[usize], wraps: &[i32]) -> Option<usize>
     ensures { place_of result ≡ open_among (pieces counts.now (rows t.now)) wraps.now }
 {
-    for k in 0..counts.len() {
-        if open_at(t, counts, wraps, k) {
-            return Some(k);
-        }
-    }
-    None
+    (0..counts.len()).find(|&k| open_at(t, counts, wraps, k))
 }
 
 // How many loops wrap.
 pub fn wrapping_count(wraps: &[i32]) -> usize
     ensures { result ≡ wrapping_of wraps.now }
 {
-    let mut n = 0;
-    for i in 0..wraps.len() {
-        n += usize::from(wraps_at(wraps, i));
-    }
-    n
+    wraps.iter().filter(|&&w| is_ring(w)).count()
 }
 
 pub fn first_wrapping(wraps: &[i32]) -> Option<usize>
     ensures { place_of result ≡ first_where (length wraps.now) (wraps_at wraps.now) }
 {
-    for k in 0..wraps.len() {
-        if wraps_at(wraps, k) {
-            return Some(k);
-        }
-    }
-    None
+    wraps.iter().position(|&w| is_ring(w))
 }
 
 pub fn last_wrapping(wraps: &[i32]) -> Option<usize>
     ensures { place_of result ≡ last_where (length wraps.now) (wraps_at wraps.now) }
 {
-    for k in (0..wraps.len()).rev() {
-        if wraps_at(wraps, k) {
-            return Some(k);
-        }
-    }
-    None
+    wraps.iter().rposition(|&w| is_ring(w))
 }
 
 // 9
+#[tactic(auto, unfolding(call::specs::Later::one_among))]
 pub fn one_ring(wraps: &[i32]) -> Option<usize>
     ensures { place_of result ≡ one_among wraps.now }
 {

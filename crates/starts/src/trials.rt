@@ -15,7 +15,7 @@ use tables::corners::Corner;
 use tables::moves::Move;
 
 // The chosen start, how many were tried, and whether one served. Where none did, the start is the
-// fallback's.
+// fallback's, which is a start all the same: so it stands beside the flag and in no Option.
 #[derive(Clone, Copy)]
 pub struct Search {
     pub start: usize,

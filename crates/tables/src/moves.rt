@@ -7,7 +7,9 @@ ghost use Rattle.tables.specs.Rows.{rows};
 use super::corners::Corner;
 use super::ring_point::RingPoint;
 
-// A step along u or v, or none: what comes round a ring has its u raised, and all else stays.
+// A step along u or v, or none: what comes round a ring has its u raised, and all else stays. An enum
+// and not a closure: the definitions name the step, and a closure's contract is a relation, not a
+// function of the step.
 #[derive(Clone, Copy)]
 pub enum Move {
     Stay,

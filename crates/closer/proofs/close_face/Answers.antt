@@ -1,3 +1,4 @@
+use Rattle.std.proofs.Common.{rules}
 use Rattle.std.proofs.lemmas.Result.{err_from_is_err_and}
 use Rattle.closer.proofs.Call.{promised, too_few, header_refused, face_refused, face-closed}
 use Rattle.closer.proofs.close_face.Goals as goal
@@ -18,14 +19,14 @@ by_clause h = record {
 pub returns-then-res-limits : goal.returns-then-res-limits
 returns-then-res-limits c =
     by_clause
-    (promised _ _ (c.shared_slice_known-1.given 2)
+    (promised c.args.«record».now _ (search rules)
     (too_few _ _ _ c.version1-limits.ensures c.if-res-limits.true))
 
 -- refusal 2
 pub returns-in-Some : goal.returns-in-Some
 returns-in-Some c =
     by_clause
-    (promised _ _ (c.shared_slice_known-1.given 2)
+    (promised c.args.«record».now _ (search rules)
     (header_refused _ _ _ c.version1-limits.ensures c.if-res-limits.false _ c.in-Some.ensures))
 
 -- the others
@@ -33,11 +34,11 @@ pub returns-in_err-filled : goal.returns-in_err-filled
 returns-in_err-filled c =
     let p = err_from_is_err_and c.from_residual.result c.from_residual.ensures.1 in
     by_clause
-    (promised _ _ (c.shared_slice_known-1.given 2)
-    (rw (p.1, p.2) (face_refused _ _ _ c.version1-limits.ensures c.if-res-limits.false _ _ _ _ c.in_err-filled.ensures)))
+    (promised c.args.«record».now _ (search rules)
+    (rw (p.1, p.2) (face_refused _ _ _ c.version1-limits.ensures c.if-res-limits.false _ _ c.in_err-filled.ensures)))
 
 pub returns : goal.returns
 returns c =
     by_clause
-    (promised _ _ (c.shared_slice_known-1.given 2)
-    (face-closed _ _ _ c.version1-limits.ensures c.if-res-limits.false _ _ _ _ c.in_ok-filled.ensures _ _ c.write_filled.ensures))
+    (promised c.args.«record».now _ (search rules)
+    (face-closed _ _ _ c.version1-limits.ensures c.if-res-limits.false _ _ c.in_ok-filled.ensures _ _ c.write_filled.ensures))

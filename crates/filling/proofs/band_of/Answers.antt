@@ -1,5 +1,5 @@
 use native.Mathlib.Omega.{arith}
-use borrow.Author.Rules.{sfits_of}
+use borrow.Author.Rules.{rules}
 use Rattle.filling.proofs.Finding.{falls_held}
 use Rattle.filling.proofs.Taken.{a_inside, b_inside, ring-taken, falls-taken, counts-taken, holes-taken, band-taken, first_short, later_short}
 use Rattle.filling.proofs.band_of.Goals as goal
@@ -14,9 +14,9 @@ returns c = λ s f room.
     (ring-taken _ _ _ _ _ _ _ _ f _ (b_inside _ _ _ _ _ _ _ _ f) _ _ _ _ other.ensures.0 (omega arith)
     (later_short _ _ _ _ _ _ _ _ f) c.min-n.ensures other.ensures.1)
     (falls-taken _ _ _ _ _ _ _ _ f _ (a_inside _ _ _ _ _ _ _ _ f) _ _ one.ensures.0
-    (falls_held _ one.result.travel (sfits_of c.struct_told-1.given.1.1.1.0.1) c.falls.ensures))
+    (falls_held _ one.result.travel (search rules) c.falls.ensures))
     (falls-taken _ _ _ _ _ _ _ _ f _ (b_inside _ _ _ _ _ _ _ _ f) _ _ other.ensures.0
-    (falls_held _ other.result.travel (sfits_of c.struct_told-2-1.given.1.1.1.0.1) c.falls-2.ensures))
+    (falls_held _ other.result.travel (search rules) c.falls-2.ensures))
     (counts-taken _ _ _ _ _ _ _ _ f _ _ _ _ (omega arith) c.count_holes.ensures c.min-k.ensures c.pick.ensures)
     (holes-taken _ _ _ _ _ _ _ _ f _ _ room c.pick_holes.ensures) _ _ _ _ _ c.u_period.ensures c.unwrap_or-period.ensures
     c.band_between.ensures

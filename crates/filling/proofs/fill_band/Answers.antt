@@ -16,8 +16,8 @@ returns-in-Ok c = λ s acc two given_is corners_are loops_are wraps_are areas_ar
     acc two given_is corners_are loops_are wraps_are patch_is sense_is c.last_wrapping.ensures c.unwrap_or-a.ensures
     c.first_wrapping.ensures c.unwrap_or-b.ensures in
     filled_short _ _ _ _ _ _ _ _ f _ _ _ (c.band_of-closing.ensures s f (room_in _ (omega arith))) _ c.in-Ok.is (omega arith)
-    (omega (arith, c.holes-2-1.given))
-    _ a.counts.now _ a.areas.now _ _ (search rules) (search rules)
+    (omega arith)
+    _ a.out.now.counts _ a.out.now.areas _ _ (search rules) (search rules)
     (ap rows c.copy_into.ensures ∙ rows-placed _ _ _) c.pick.ensures (areas-put _ _ _ _ _ _ areas_are c.pick-in-Ok.ensures) c.saturating_sub.ensures
 
 pub returns-in-Err : goal.returns-in-Err

@@ -4,7 +4,7 @@ use Rattle.filling.proofs.fill_whole.Goals as goal
 
 pub returns : goal.returns
 returns c = λ s a bare patch_is.
-    whole_filled s bare c.args.patch patch_is c.args.counts.now _ c.args.areas.now _ c.args.t.now _ _ _
+    whole_filled s bare c.args.patch patch_is c.args.out.now.counts _ c.args.out.now.areas _ c.args.out.now.corners _ _ _
     c.full_domain_count.ensures.value c.full_domain_loop.ensures.value refl refl
     c.full_domain_loop.ensures.t_after
     (search rules) (search rules) (search rules)

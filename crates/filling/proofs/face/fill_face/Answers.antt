@@ -9,9 +9,9 @@ pub returns-in_err-check : goal.returns-in_err-check
 returns-in_err-check c =
     let p = err_from_is_err_and c.from_residual.result c.from_residual.ensures.1 in
     let found = rw c.version1.ensures at c.in_err-check.ensures in
-    rw (p.1, p.2) (refused_as _ (record_conditions version1) (later_conditions version1) _ found _ _ _)
+    rw (p.1, p.2) (refused_as _ (record_conditions version1) (later_conditions version1) _ found _)
 
 pub returns : goal.returns
 returns c =
     let found = rw c.version1.ensures at c.in_ok-check.ensures in
-    filled_as _ (record_conditions version1) (later_conditions version1) found _ _ _ _ (c.fill_record.ensures (accepted_as _ found))
+    filled_as _ (record_conditions version1) (later_conditions version1) found _ _ (c.fill_record.ensures (accepted_as _ found))

@@ -1,5 +1,5 @@
 use Rattle.std.proofs.Common.{arith, sym, ◌∙◌}
-use Rattle.tables.specs.Rows.{rows, corner_of}
+use Rattle.tables.specs.Rows.{rows}
 use Rattle.tables.proofs.Rows.{length-rows, row_at}
 use Rattle.measuring.proofs.Searches.{no_ends_in, ends_in}
 use Rattle.measuring.proofs.refusals.ends_meet.Goals as goal

@@ -1,11 +1,6 @@
-use Rattle.measuring.proofs.Searches.{falling_found, falling_turn, falling_end}
+use Rattle.std.proofs.Common.{rules}
+use Rattle.measuring.proofs.Searches.{last_found}
 use Rattle.measuring.proofs.refusals.last_wrapping.Goals as goal
 
-pub returns-then-wraps_at : goal.returns-then-wraps_at
-returns-then-wraps_at c = falling_found _ _ c.loop-k.invariant c.loop-k-test.true _ c.wraps_at.ensures c.if-wraps_at.true
-
-pub loop-k-preserved : goal.loop-k-preserved
-loop-k-preserved c = falling_turn _ _ c.loop-k.invariant c.loop-k-test.true _ c.wraps_at.ensures c.if-wraps_at.false
-
 pub returns : goal.returns
-returns c = falling_end _ _ c.loop-k.invariant c.loop-k-test.false
+returns c = last_found _ _ (search rules)

@@ -1,13 +1,15 @@
-use mathlib.Core.Path.{sym, ◌∙◌}
-use Rattle.records.proofs.Search.{seek_turn}
-use Rattle.measuring.proofs.Searches.{opening_found, opening_end}
+use Rattle.std.proofs.Common.{ℕ, ◌≡◌, true, false, rules}
+use Rattle.std.proofs.lemmas.Iterator.{first_from_Range}
+use Rattle.lists.specs.Pieces.{pieces}
+use Rattle.tables.specs.Rows.{rows}
+use Rattle.call.specs.Later.{open_at}
+use Rattle.measuring.proofs.Searches.{opening_found}
 use Rattle.measuring.proofs.refusals.open_ring.Goals as goal
 
-pub returns-then-open_at : goal.returns-then-open_at
-returns-then-open_at c = opening_found _ _ _ _ c.loop-k.invariant c.loop-k-test.true (sym c.open_at.ensures ∙ c.if-open_at.true)
-
-pub loop-k-preserved : goal.loop-k-preserved
-loop-k-preserved c = seek_turn c.loop-k.invariant c.loop-k-test.true (sym c.open_at.ensures ∙ c.if-open_at.false)
-
 pub returns : goal.returns
-returns c = opening_end _ _ _ _ c.loop-k.invariant c.loop-k-test.false
+returns c =
+    let ls = pieces c.args.counts.now (rows c.args.t.now) in
+    let ws = c.args.wraps.now in
+    opening_found _ _ _ _
+    (first_from_Range _ _ _ c.find.result (λ (k : ℕ). open_at ls ws k ≡ true) (λ (k : ℕ). open_at ls ws k ≡ false) c.find.ensures.ran
+    (λ x q k. search rules) (λ x q k. search rules))
