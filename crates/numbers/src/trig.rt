@@ -5,8 +5,6 @@ ghost use Rattle.std.specs.Float.{fin};
 ghost use Rattle.numbers.specs.Constants.{one};
 ghost use Rattle.numbers.specs.Trig.{divisor_of, series_from, quarter_of, reduced_of, sincos_of, tan_of, acos_of};
 
-use super::rounding::round;
-
 #[derive(Clone, Copy)]
 pub struct SinCos {
     pub sin: f64,
@@ -86,7 +84,7 @@ fn reduced(q: f64, r: f64) -> SinCos
     }
 }
 
-#[tactic(auto, unfolding(crate::specs::Trig::sincos_of, crate::specs::Trig::sincos_in))]
+#[tactic(auto, using(crate::proofs::rounding::Laws::round_is), unfolding(crate::specs::Trig::sincos_of, crate::specs::Trig::sincos_in))]
 pub fn sin_cos(t: f64) -> SinCos
     ensures { result ≡ sincos_of t }
 {
@@ -94,7 +92,7 @@ pub fn sin_cos(t: f64) -> SinCos
         SinCos { sin: 0.0, cos: 0.0 }
     } else {
         // q stays a real: a whole number would lose the sign of a zero in q * H.
-        let q = round(t / FRAC_PI_2);
+        let q = (t / FRAC_PI_2).round();
         reduced(q, t - q * FRAC_PI_2)
     }
 }
