@@ -65,24 +65,27 @@ fn placement_of(f: numbers::math::Frame) -> Placement
 }
 
 #[unsafe(no_mangle)]
+#[tactic(auto, using(numbers::proofs::rounding::Laws::round_is))]
 pub extern "C" fn compared_round(x: f64) -> f64
     ensures { result ≡ round_away x }
 {
-    numbers::rounding::round(x)
+    x.round()
 }
 
 #[unsafe(no_mangle)]
+#[tactic(auto, using(numbers::proofs::rounding::Laws::floor_is))]
 pub extern "C" fn compared_floor(x: f64) -> f64
     ensures { result ≡ floor_of x }
 {
-    numbers::rounding::floor(x)
+    x.floor()
 }
 
 #[unsafe(no_mangle)]
+#[tactic(auto, using(numbers::proofs::rounding::Laws::ceil_is))]
 pub extern "C" fn compared_ceil(x: f64) -> f64
     ensures { result ≡ ceil_of x }
 {
-    numbers::rounding::ceil(x)
+    x.ceil()
 }
 
 #[unsafe(no_mangle)]

@@ -1,3 +1,4 @@
+pub mod rounding
 pub mod Reals
 pub mod Equality
 pub mod Position
