@@ -105,8 +105,8 @@ fn fill_record(face: &[u8], out: &mut ResultLoops) -> Result<FilledFace, Refusal
     let corners = &mut corners[..e];
     let surface = surface_of(kind(face), at(&head, 9), at(&head, 10));
     let loops = measure_loops(corners, given, surface.u_period());
-    // The refusals and the comparison speak of a list of wraps, and the closed path changes the areas
-    // where they are: both stand beside the records.
+    // The refusals are defined over a list of wraps, and the closed path changes a list of areas where
+    // it is: both stand beside the records.
     let wraps = wraps_of(loops);
     let wraps = &wraps[..l];
     let mut measured = areas_of(loops);
