@@ -58,6 +58,7 @@ fn read_input(input: &mut Stdin, bytes: &mut [u8]) -> io::Result<usize>
     ensures { IfOk result (λ there. there ≤ length bytes.new) }
 {
     let mut done = 0;
+    // Not a `for`: how many reads it takes is known only by reading.
     while done < bytes.len() {
         let there = read_more(input, bytes, done)?;
         if there == done {
