@@ -65,27 +65,24 @@ fn placement_of(f: numbers::math::Frame) -> Placement
 }
 
 #[unsafe(no_mangle)]
-#[tactic(auto, using(numbers::proofs::rounding::Laws::round_is))]
 pub extern "C" fn compared_round(x: f64) -> f64
     ensures { result ≡ round_away x }
 {
-    x.round()
+    numbers::rounding::round(x)
 }
 
 #[unsafe(no_mangle)]
-#[tactic(auto, using(numbers::proofs::rounding::Laws::floor_is))]
 pub extern "C" fn compared_floor(x: f64) -> f64
     ensures { result ≡ floor_of x }
 {
-    x.floor()
+    numbers::rounding::floor(x)
 }
 
 #[unsafe(no_mangle)]
-#[tactic(auto, using(numbers::proofs::rounding::Laws::ceil_is))]
 pub extern "C" fn compared_ceil(x: f64) -> f64
     ensures { result ≡ ceil_of x }
 {
-    x.ceil()
+    numbers::rounding::ceil(x)
 }
 
 #[unsafe(no_mangle)]

@@ -1,4 +1,3 @@
-pub mod rounding
 pub mod Reals
 pub mod Equality
 pub mod Position

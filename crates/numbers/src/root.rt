@@ -1,6 +1,5 @@
 // The square root: of a whole number, one bit of the root at each call, and from it that of a real,
-// rounded to the nearest with ties to even. This form is asked for by name, so the library's `isqrt`
-// and `f64::sqrt` do not stand here.
+// rounded to the nearest with ties to even.
 ghost use Rattle.std.specs.Prelude.{◌≡◌, ◌*◌, ◌^◌, ◌<◌, ◌≤◌, false, T, pos};
 ghost use Rattle.std.specs.Float.Ieee as Ieee;
 ghost use Rattle.std.specs.Float.{fin, inf};

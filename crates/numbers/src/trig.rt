@@ -1,9 +1,11 @@
 // sin, cos, tan and acos, each operation rounded once in the order that document 01 writes them.
-ghost use Rattle.std.specs.Prelude.{◌≡◌, ◌<◌, ◌≤◌};
+ghost use Rattle.std.specs.Prelude.{◌≡◌, ◌<◌, ◌≤◌, false, T, pos};
+ghost use Rattle.std.specs.Float.Ieee as Ieee;
+ghost use Rattle.std.specs.Float.{fin};
 ghost use Rattle.numbers.specs.Constants.{one};
 ghost use Rattle.numbers.specs.Trig.{divisor_of, series_from, quarter_of, reduced_of, sincos_of, tan_of, acos_of};
 
-use std::num::saturating_f64_to_i64;
+use super::rounding::round;
 
 #[derive(Clone, Copy)]
 pub struct SinCos {
@@ -46,11 +48,24 @@ impl Series {
 }
 
 // From 2^63 on every real is a multiple of 4.
+fn quarter_up(q: f64) -> u64
+    requires { T (Ieee.lt (fin false 0 (pos 0)) q) }
+    ensures { result ≡ quarter_of q }
+{
+    if q < 9223372036854775808.0 {
+        std::num::truncating_f64_to_u64(q) % 4
+    } else {
+        0
+    }
+}
+
 fn quarter(q: f64) -> u64
     ensures { result ≡ quarter_of q }
 {
-    if q.abs() < 9223372036854775808.0 {
-        saturating_f64_to_i64(q).rem_euclid(4).unsigned_abs()
+    if q > 0.0 {
+        quarter_up(q)
+    } else if q < 0.0 {
+        (4 - quarter_up(-q)) % 4
     } else {
         0
     }
@@ -71,7 +86,7 @@ fn reduced(q: f64, r: f64) -> SinCos
     }
 }
 
-#[tactic(auto, using(crate::proofs::rounding::Laws::round_is), unfolding(crate::specs::Trig::sincos_of, crate::specs::Trig::sincos_in))]
+#[tactic(auto, unfolding(crate::specs::Trig::sincos_of, crate::specs::Trig::sincos_in))]
 pub fn sin_cos(t: f64) -> SinCos
     ensures { result ≡ sincos_of t }
 {
@@ -79,7 +94,7 @@ pub fn sin_cos(t: f64) -> SinCos
         SinCos { sin: 0.0, cos: 0.0 }
     } else {
         // q stays a real: a whole number would lose the sign of a zero in q * H.
-        let q = (t / FRAC_PI_2).round();
+        let q = round(t / FRAC_PI_2);
         reduced(q, t - q * FRAC_PI_2)
     }
 }
