@@ -44,5 +44,8 @@ fn no_corner() -> Corner
 pub fn corner_at(t: &[Corner], i: usize) -> Corner
     ensures { corner_of result ≡ get_or (rows t.now) i none }
 {
-    t.get(i).copied().unwrap_or(no_corner())
+    match t.get(i) {
+        Some(c) => *c,
+        None => no_corner(),
+    }
 }
