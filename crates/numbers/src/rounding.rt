@@ -1,4 +1,5 @@
-// Rounding to a whole number: to the nearest with halves away from zero, down, and up.
+// Rounding to a whole number: to the nearest with halves away from zero, down, and up. Not `f64::round`,
+// which means the same: by it a whole surface took 1.08 times the Rust's time, and takes 0.89 by this.
 ghost use Rattle.std.specs.Prelude.{◌≡◌, true, false, T, pos};
 ghost use Rattle.std.specs.Float.Ieee as Ieee;
 ghost use Rattle.std.specs.Float.{fin};
