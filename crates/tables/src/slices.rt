@@ -5,7 +5,8 @@ ghost use Rattle.std.specs.Float.{nan};
 ghost use Rattle.lists.specs.Parts.{part_of};
 ghost use Rattle.lists.specs.Placed.{placed};
 
-// The element at i, and a NaN past the end: a read that asks nothing.
+// The element at i, and a NaN past the end: a read that asks nothing. Not `get(i).copied().unwrap_or(..)`,
+// nor `get_mut` in `put`: by those the proofs need longer answers.
 pub fn at(s: &[f64], i: usize) -> f64
     ensures { result ≡ get_or s.now i nan }
 {

@@ -11,7 +11,8 @@ pub fn goes_with(sense: bool, falls: bool) -> bool
 }
 
 // Whether the first of two rings is the lower one. Where v comes round, the one that goes with the
-// face is lower if the other does not.
+// face is lower if the other does not. The rings' facts are apart, as the definition has them, and not in
+// a struct for each.
 #[tactic(auto, unfolding(bands::specs::Band::first_is_lower))]
 pub fn first_is_lower(period: Option<f64>, with1: bool, with2: bool, mean1: f64, mean2: f64) -> bool
     ensures { result ≡ first_is_lower period with1 with2 mean1 mean2 }
