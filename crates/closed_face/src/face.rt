@@ -4,6 +4,7 @@ ghost use mathlib.Core.List.{map, flatten};
 ghost use Rattle.lists.specs.Pieces.{pieces};
 ghost use Rattle.lists.specs.Placed.{placed};
 ghost use Rattle.surfaces.specs.Domains.{period_length};
+ghost use Rattle.tables.specs.Loops.{loops_in};
 ghost use Rattle.tables.specs.Rows.{rows};
 ghost use Rattle.closed_region.specs.Loops.{box_in};
 ghost use Rattle.closed_face.specs.First.{part_first};
@@ -14,28 +15,31 @@ use closed_region::boxes::Bounds;
 use closed_region::holes::rephase_holes;
 use closed_region::region::closed_region;
 use tables::corners::Corner;
-use tables::pieces::loop_of;
-use tables::slices::{part, piece_end};
+use tables::loops::{Loops, loop_of};
+use tables::slices::part;
 
 // How many rows the first k loops have: where loop k begins.
-fn begin_of(t: &[Corner], counts: &[usize], k: usize) -> usize
-    ensures { (result ≡ length (flatten (take k (pieces counts.now (rows t.now))))) × (result ≤ length t.now) }
+fn begin_of(loops: Loops, k: usize) -> usize
+    ensures { (result ≡ length (flatten (take k (loops_in loops.entry)))) × (result ≤ length loops.entry.corners.now) }
 {
     let mut from = 0;
-    for i in 0..counts.len().min(k) {
-        from = piece_end(t.len(), from, counts[i]);
+    for (i, one) in loops.enumerate() {
+        if i == k {
+            return from;
+        }
+        from += one.len();
     }
     from
 }
 
 // The rows of loop k, then those of all others in their order, into the front of out.
-pub fn loop_first(t: &[Corner], counts: &[usize], k: usize, out: &mut [Corner])
-    ensures { rows out.new ≡ placed 0 (flatten (part_first k 1 (pieces counts.now (rows t.now)))) (rows out.old) }
+pub fn loop_first(loops: Loops, k: usize, out: &mut [Corner])
+    ensures { rows out.new ≡ placed 0 (flatten (part_first k 1 (loops_in loops.entry))) (rows out.old) }
 {
-    let from = begin_of(t, counts, k);
-    let m = loop_of(t, counts, k).len();
-    let end = begin_of(t, counts, counts.len());
-    part_first(&t[..end], from, m, out);
+    let from = begin_of(loops, k);
+    let m = loop_of(loops, k).len();
+    let end = begin_of(loops, loops.counts.len());
+    part_first(&loops.corners[..end], from, m, out);
 }
 
 // The outer loop, then the holes in their order, into the front of out, out_counts and out_areas.
@@ -59,9 +63,9 @@ pub fn closed_face(
     ensures out_counts_after { out_counts.new ≡ cond (ltb (outer_found counts.now (rows t.old) areas.old (length boxes.old)) (length counts.now)) (placed 0 (part_first (outer_found counts.now (rows t.old) areas.old (length boxes.old)) 1 counts.now) out_counts.old) out_counts.old }
     ensures out_areas_after { out_areas.new ≡ placed 0 (part_first (outer_found counts.now (rows t.old) areas.old (length boxes.old)) 1 (take (length counts.now) areas.new)) out_areas.old }
 {
-    let outer = closed_region(t, counts, areas, boxes);
+    let outer = closed_region(Loops::new(t, counts), areas, boxes);
     rephase_holes(t, counts, areas, outer, u, v);
-    loop_first(t, counts, outer, out);
+    loop_first(Loops::new(t, counts), outer, out);
     // No loop is the outer one where there are none.
     if outer < counts.len() {
         part_first(counts, outer, 1, out_counts);

@@ -1,7 +1,7 @@
 // The boxes of the loops of a face in u and v.
 ghost use Rattle.std.specs.Prelude.{◌≡◌, map};
-ghost use Rattle.lists.specs.Pieces.{pieces};
 ghost use Rattle.lists.specs.Placed.{placed};
+ghost use Rattle.tables.specs.Loops.{loops_in};
 ghost use Rattle.tables.specs.Rows.{rows};
 ghost use Rattle.closed_region.specs.Loops.{box_in};
 
@@ -30,13 +30,13 @@ pub fn box_of(t: &[Corner]) -> Bounds
 }
 
 // The box of each loop into the front of `boxes`. Nothing is written where they do not fit.
-pub fn boxes_into(t: &[Corner], counts: &[usize], boxes: &mut [Bounds])
-    ensures { boxes.new ≡ placed 0 (map box_in (pieces counts.now (rows t.now))) boxes.old }
+pub fn boxes_into(loops: Loops, boxes: &mut [Bounds])
+    ensures { boxes.new ≡ placed 0 (map box_in (loops_in loops.entry)) boxes.old }
 {
-    if boxes.len() < counts.len() {
+    if boxes.len() < loops.counts.len() {
         return;
     }
-    for (i, one) in Loops::new(t, counts).enumerate() {
+    for (i, one) in loops.enumerate() {
         boxes[i] = box_of(one);
     }
 }

@@ -15,8 +15,8 @@ use super::rephase::{Branch, stays};
 use loops::rows::signed_area;
 use numbers::rounding::round;
 use tables::corners::Corner;
+use tables::loops::{Loops, loop_of};
 use tables::moves::{Move, move_v, slide};
-use tables::pieces::loop_of;
 use tables::slices::{at, piece_end, put};
 
 // The whole periods that bring one middle nearest to another.
@@ -109,7 +109,7 @@ pub fn rephase_holes(
     if areas.len() < counts.len() {
         return;
     }
-    let b = branch_of(loop_of(t, counts, outer), u, v);
+    let b = branch_of(loop_of(Loops::new(t, counts), outer), u, v);
     let mut from = 0;
     for (k, &n) in counts.iter().enumerate() {
         let to = piece_end(t.len(), from, n);

@@ -1,8 +1,7 @@
 // `closed_region` of face.rs: which loop of a face is the outer one. The others are its holes.
 ghost use Rattle.std.specs.Prelude.{◌≡◌, map, length};
-ghost use Rattle.lists.specs.Pieces.{pieces};
 ghost use Rattle.lists.specs.Placed.{placed};
-ghost use Rattle.tables.specs.Rows.{rows};
+ghost use Rattle.tables.specs.Loops.{loops_in};
 ghost use Rattle.closed_region.specs.Loops.{box_in};
 ghost use Rattle.closed_region.specs.Region.{outer_among};
 
@@ -10,17 +9,17 @@ use super::box_table::boxes_into;
 use super::boxes::Bounds;
 use super::enclosing::outer_loop;
 use super::outer::last_largest;
-use tables::corners::Corner;
+use tables::loops::Loops;
 use tables::slices::part;
 
 // The areas of the loops stand in front of `areas`; their boxes are written to the front of `boxes`.
 // Where that has no room for them the largest area decides alone.
-pub fn closed_region(t: &[Corner], counts: &[usize], areas: &[f64], boxes: &mut [Bounds]) -> usize
-    ensures value { result ≡ outer_among (pieces counts.now (rows t.now)) areas.now (length boxes.old) }
-    ensures boxes_after { boxes.new ≡ placed 0 (map box_in (pieces counts.now (rows t.now))) boxes.old }
+pub fn closed_region(loops: Loops, areas: &[f64], boxes: &mut [Bounds]) -> usize
+    ensures value { result ≡ outer_among (loops_in loops.entry) areas.now (length boxes.old) }
+    ensures boxes_after { boxes.new ≡ placed 0 (map box_in (loops_in loops.entry)) boxes.old }
 {
-    let n = counts.len();
-    boxes_into(t, counts, boxes);
+    let n = loops.counts.len();
+    boxes_into(loops, boxes);
     if boxes.len() < n {
         return last_largest(part(areas, 0, n));
     }

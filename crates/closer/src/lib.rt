@@ -14,6 +14,7 @@ use records::check::wrong_header;
 use records::limits::version1;
 use records::refusal::Refusal;
 use results::write_result;
+use tables::loops::Loops;
 
 pub mod entry;
 
@@ -23,7 +24,8 @@ fn write_filled(face: FilledFace, out: &ResultLoops, res: &mut [u8]) -> usize
     ensures { WrittenBytes face.path face.loops out.now.counts out.now.areas out.now.corners res.old res.new result }
 {
     let l = face.loops.min(out.counts.len());
-    write_result(face.path, &out.counts[..l], &out.areas, &out.corners, res).unwrap_or(0)
+    let loops = Loops::new(&out.corners, &out.counts[..l]);
+    write_result(face.path, loops, &out.areas, res).unwrap_or(0)
 }
 
 // The face record is closed into the front of the lent bytes, and the length of the result record is

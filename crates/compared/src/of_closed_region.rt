@@ -13,6 +13,7 @@ ghost use Rattle.compared.specs.Surfaces.{period_of};
 use super::of_surfaces::period_of;
 use closed_region::boxes::Bounds;
 use tables::corners::Corner;
+use tables::loops::Loops;
 
 #[unsafe(no_mangle)]
 pub extern "C" fn compared_closed_region(
@@ -24,7 +25,7 @@ pub extern "C" fn compared_closed_region(
     ensures value { result ≡ outer_among (pieces counts.now (rows t.now)) areas.now (length boxes.old) }
     ensures boxes_after { boxes.new ≡ placed 0 (map box_in (pieces counts.now (rows t.now))) boxes.old }
 {
-    closed_region::region::closed_region(t, counts, areas, boxes)
+    closed_region::region::closed_region(Loops::new(t, counts), areas, boxes)
 }
 
 #[unsafe(no_mangle)]

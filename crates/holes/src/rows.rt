@@ -2,8 +2,8 @@
 // number a and b. Where they do not all fit, nothing is written.
 ghost use Rattle.std.specs.Prelude.{◌≡◌, cond, ◌+◌, ◌-◌, ◌^◌, ◌≤◌, ◌<◌, length};
 ghost use mathlib.Core.List.{[], flatten};
-ghost use Rattle.lists.specs.Pieces.{pieces};
 ghost use Rattle.lists.specs.Placed.{placed};
+ghost use Rattle.tables.specs.Loops.{loops_in};
 ghost use Rattle.tables.specs.Rows.{rows};
 ghost use Rattle.holes.specs.Others.{others};
 
@@ -13,11 +13,11 @@ use tables::loops::Loops;
 use tables::slices::{copy_into, has_room};
 
 // How many rows the holes have.
-pub fn count_rows(t: &[Corner], counts: &[usize], a: usize, b: usize) -> usize
-    ensures { (result ≡ length (flatten (others a b (pieces counts.now (rows t.now))))) × (result ≤ length (rows t.now)) }
+pub fn count_rows(loops: Loops, a: usize, b: usize) -> usize
+    ensures { (result ≡ length (flatten (others a b (loops_in loops.entry)))) × (result ≤ length (rows loops.entry.corners.now)) }
 {
     let mut sum = 0;
-    for (i, one) in Loops::new(t, counts).enumerate() {
+    for (i, one) in loops.enumerate() {
         if !is_ring(i, a, b) {
             sum += one.len();
         }
@@ -26,14 +26,14 @@ pub fn count_rows(t: &[Corner], counts: &[usize], a: usize, b: usize) -> usize
 }
 
 // The holes' rows, one loop behind the other, into out from row `at` on.
-pub fn pick_holes(out: &mut [Corner], at: usize, t: &[Corner], counts: &[usize], a: usize, b: usize)
-    ensures { rows out.new ≡ placed at (flatten (others a b (pieces counts.now (rows t.now)))) (rows out.old) }
+pub fn pick_holes(out: &mut [Corner], at: usize, loops: Loops, a: usize, b: usize)
+    ensures { rows out.new ≡ placed at (flatten (others a b (loops_in loops.entry))) (rows out.old) }
 {
-    if !has_room(out.len(), at, count_rows(t, counts, a, b)) {
+    if !has_room(out.len(), at, count_rows(loops, a, b)) {
         return;
     }
     let mut here = at;
-    for (i, one) in Loops::new(t, counts).enumerate() {
+    for (i, one) in loops.enumerate() {
         if !is_ring(i, a, b) {
             copy_into(out, here, one);
             here += one.len();

@@ -4,6 +4,7 @@ ghost use Rattle.std.specs.Prelude.{◌≡◌, map};
 ghost use Rattle.lists.specs.Pieces.{pieces, map_pieces};
 ghost use Rattle.lists.specs.Placed.{placed};
 ghost use Rattle.tables.specs.Corners.{us};
+ghost use Rattle.tables.specs.Loops.{loops_in};
 ghost use Rattle.tables.specs.Rows.{rows};
 ghost use Rattle.seam.specs.Gap.{span_of};
 ghost use Rattle.bands.specs.Rings.{onto, any_straddles};
@@ -36,10 +37,10 @@ pub fn onto_all(t: &mut [Corner], counts: &[usize], lo: f64, period: f64)
 }
 
 // Whether a hole reaches past an end of the strip that begins at lo.
-pub fn any_straddles(t: &[Corner], counts: &[usize], lo: f64, period: f64) -> bool
-    ensures { result ≡ any_straddles period lo (pieces counts.now (rows t.now)) }
+pub fn any_straddles(holes: Loops, lo: f64, period: f64) -> bool
+    ensures { result ≡ any_straddles period lo (loops_in holes.entry) }
 {
-    for hole in Loops::new(t, counts) {
+    for hole in holes {
         if straddles(hole, lo, period) {
             return true;
         }
@@ -58,13 +59,13 @@ fn span_of(t: &[Corner]) -> Span
 }
 
 // What each hole covers into the front of `out`, and nothing where they do not fit.
-pub fn spans_into(out: &mut [Span], t: &[Corner], counts: &[usize])
-    ensures { out.new ≡ placed 0 (map span_of (pieces counts.now (us (rows t.now)))) out.old }
+pub fn spans_into(out: &mut [Span], holes: Loops)
+    ensures { out.new ≡ placed 0 (map span_of (pieces holes.entry.counts.now (us (rows holes.entry.corners.now)))) out.old }
 {
-    if out.len() < counts.len() {
+    if out.len() < holes.counts.len() {
         return;
     }
-    for (i, hole) in Loops::new(t, counts).enumerate() {
+    for (i, hole) in holes.enumerate() {
         out[i] = span_of(hole);
     }
 }

@@ -15,6 +15,7 @@ use rings::moves::recut_at;
 use rings::table_choices::{first_open_past, greatest_u, least_u};
 use seam::gap::{Gap, Span, sort_spans, usable, widest_gap};
 use tables::corners::Corner;
+use tables::loops::Loops;
 use tables::moves::Move;
 
 // Whether the rings make a strip at all, from lo, their least u, on.
@@ -29,13 +30,13 @@ fn has_strip(lo: f64, first: &[Corner], later: &[Corner]) -> bool
 }
 
 // The widest gap between the holes. What they cover stands in the front of `spans`.
-fn gap_of(spans: &mut [Span], holes: &[Corner], counts: &[usize], lo: f64, hi: f64) -> Gap
-    requires { length counts.now ≤ length spans.old }
-    ensures { result ≡ widest_gap lo hi (map span_of (pieces counts.now (us (rows holes.now)))) }
+fn gap_of(spans: &mut [Span], holes: Loops, lo: f64, hi: f64) -> Gap
+    requires { length holes.counts.now ≤ length spans.old }
+    ensures { result ≡ widest_gap lo hi (map span_of (pieces holes.entry.counts.now (us (rows holes.entry.corners.now)))) }
 {
-    let n = counts.len();
+    let n = holes.counts.len();
     let covered = &mut spans[..n];
-    spans_into(covered, holes, counts);
+    spans_into(covered, holes);
     sort_spans(covered);
     widest_gap(covered, lo, hi)
 }
@@ -83,11 +84,12 @@ fn reseam_with_room(
         return;
     }
     onto_all(holes, counts, lo, period);
-    if !any_straddles(holes, counts, lo, period) {
+    let onto = Loops::new(holes, counts);
+    if !any_straddles(onto, lo, period) {
         return;
     }
     let hi = lo + period;
-    let gap = gap_of(spans, holes, counts, lo, hi);
+    let gap = gap_of(spans, onto, lo, hi);
     if usable(gap, lo, hi) {
         cut_anew(first, later, holes, counts, gap.cut, period);
     }

@@ -1,9 +1,7 @@
-// A record of each loop of a face. The loops stand one behind the other in a table, and `counts` says
-// how many points each has. Where the counts run past the end, a loop is what is left.
+// A record of each loop of a face.
 ghost use Rattle.std.specs.Prelude.{◌≡◌, replicate};
-ghost use Rattle.lists.specs.Pieces.{pieces};
 ghost use Rattle.lists.specs.Placed.{placed};
-ghost use Rattle.tables.specs.Corners.{us};
+ghost use Rattle.tables.specs.Loops.{loops_in};
 ghost use Rattle.tables.specs.Rows.{rows};
 ghost use Rattle.loop_records.specs.Record.{no_loop};
 ghost use Rattle.loop_records.specs.Loops.{record_of, records_from};
@@ -28,17 +26,17 @@ fn measured(t: &[Corner], start: usize, period: Option<f64>) -> LoopRecord
 }
 
 // A record for each loop, and none where there are more loops than the list has records.
-pub fn measure_loops(t: &[Corner], counts: &[usize], period: Option<f64>) -> [LoopRecord; 16]
-    ensures { result ≡ placed 0 (records_from period 0 (pieces counts.now (rows t.now))) (replicate 16 no_loop) }
+pub fn measure_loops(loops: Loops, period: Option<f64>) -> [LoopRecord; 16]
+    ensures { result ≡ placed 0 (records_from period 0 (loops_in loops.entry)) (replicate 16 no_loop) }
 {
-    let mut loops = [no_loop(); 16];
-    if counts.len() > 16 {
-        return loops;
+    let mut records = [no_loop(); 16];
+    if loops.counts.len() > 16 {
+        return records;
     }
     let mut start = 0;
-    for (i, one) in Loops::new(t, counts).enumerate() {
-        loops[i] = measured(one, start, period);
+    for (i, one) in loops.enumerate() {
+        records[i] = measured(one, start, period);
         start += one.len();
     }
-    loops
+    records
 }

@@ -2,8 +2,8 @@
 ghost use Rattle.std.specs.Prelude.{◌≡◌, length};
 ghost use Rattle.numbers.specs.Position.{same};
 ghost use Rattle.bands.specs.Given.{wraps};
-ghost use Rattle.lists.specs.Pieces.{pieces};
 ghost use Rattle.tables.specs.Corners.{positions};
+ghost use Rattle.tables.specs.Loops.{loops_in};
 ghost use Rattle.tables.specs.Rows.{rows};
 ghost use Rattle.loops.specs.Rings.{ends_meet};
 ghost use Rattle.records.specs.Answers.{place_of};
@@ -12,7 +12,7 @@ ghost use Rattle.call.specs.Later.{wraps_at, open_at, open_among, wrapping_of, o
 ghost use Rattle.measuring.specs.LastWhere.{last_where};
 
 use tables::corners::Corner;
-use tables::pieces::loop_of;
+use tables::loops::{Loops, loop_of};
 
 // Whether a loop of this wrap is a ring.
 fn is_ring(wrap: i32) -> bool
@@ -44,17 +44,17 @@ fn ends_meet(t: &[Corner]) -> bool
 
 // Whether loop k wraps and is open.
 #[tactic(auto, unfolding(call::specs::Later::open_at))]
-fn open_at(t: &[Corner], counts: &[usize], wraps: &[i32], k: usize) -> bool
-    ensures { result ≡ open_at (pieces counts.now (rows t.now)) wraps.now k }
+fn open_at(loops: Loops, wraps: &[i32], k: usize) -> bool
+    ensures { result ≡ open_at (loops_in loops.entry) wraps.now k }
 {
-    wraps_at(wraps, k) && !ends_meet(loop_of(t, counts, k))
+    wraps_at(wraps, k) && !ends_meet(loop_of(loops, k))
 }
 
 // 8
-pub fn open_ring(t: &[Corner], counts: &[usize], wraps: &[i32]) -> Option<usize>
-    ensures { place_of result ≡ open_among (pieces counts.now (rows t.now)) wraps.now }
+pub fn open_ring(loops: Loops, wraps: &[i32]) -> Option<usize>
+    ensures { place_of result ≡ open_among (loops_in loops.entry) wraps.now }
 {
-    (0..counts.len()).find(|&k| open_at(t, counts, wraps, k))
+    (0..loops.counts.len()).find(|&k| open_at(loops, wraps, k))
 }
 
 // How many loops wrap.

@@ -14,6 +14,7 @@ ghost use Rattle.results.specs.Written.{path_of, table_result, size_of, Fitting,
 
 use numbers::bits;
 use tables::corners::Corner;
+use tables::loops::Loops;
 
 #[derive(Clone, Copy)]
 pub enum Path {
@@ -120,39 +121,34 @@ fn put_positions(out: &mut [u8], at: usize, t: &[Corner])
 }
 
 // The whole record, where all fits: m is the number of corners.
-fn put_result(out: &mut [u8], path: u8, counts: &[usize], areas: &[f64], m: usize, t: &[Corner])
-    requires { Fitting out.old counts.now areas.now m t.now }
-    ensures { out.new ≡ front (encode (table_result path counts.now areas.now (rows t.now))) out.old }
+fn put_result(out: &mut [u8], path: u8, loops: Loops, areas: &[f64], m: usize)
+    requires { Fitting out.old loops.counts.now areas.now m loops.corners.now }
+    ensures { out.new ≡ front (encode (table_result path loops.entry.counts.now areas.now (rows loops.entry.corners.now))) out.old }
 {
-    let n = counts.len();
+    let n = loops.counts.len();
+    let t = &loops.corners[..m];
     put_head(out, path, (n - 1) as u8);
-    put_counts(out, 4, counts);
+    put_counts(out, 4, loops.counts);
     put_reals(out, 4 + 2 * n, &areas[..n]);
-    put_parameters(out, 4 + 10 * n, &t[..m]);
-    put_positions(out, 4 + 10 * n + 16 * m, &t[..m]);
+    put_parameters(out, 4 + 10 * n, t);
+    put_positions(out, 4 + 10 * n + 16 * m, t);
 }
 
-// One count and one area for each loop, the outer loop first, and all corners, loop by loop. Areas and
-// table may be longer than what is taken from them. Answers the record's length, where all fits.
-pub fn write_result(
-    path: Path,
-    counts: &[usize],
-    areas: &[f64],
-    t: &[Corner],
-    out: &mut [u8],
-) -> Option<usize>
-    ensures { WrittenTo path counts.now areas.now t.now out.old out.new result }
+// The loops, the outer one first, and an area for each. Areas and table may be longer than what is
+// taken from them. Answers the record's length, where all fits.
+pub fn write_result(path: Path, loops: Loops, areas: &[f64], out: &mut [u8]) -> Option<usize>
+    ensures { WrittenTo path loops.entry.counts.now areas.now loops.entry.corners.now out.old out.new result }
 {
-    let size = result_size(counts)?;
+    let size = result_size(loops.counts)?;
     if out.len() < size.length {
         return None;
     }
-    if areas.len() < counts.len() {
+    if areas.len() < loops.counts.len() {
         return None;
     }
-    if t.len() < size.corners {
+    if loops.corners.len() < size.corners {
         return None;
     }
-    put_result(out, u8::from(path), counts, areas, size.corners, t);
+    put_result(out, u8::from(path), loops, areas, size.corners);
     Some(size.length)
 }

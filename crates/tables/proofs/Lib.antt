@@ -3,4 +3,4 @@ pub mod PartRows
 pub mod Unless
 pub mod Steps
 pub mod CornersFrom
-pub mod FirstLoop
+pub mod LoopLaws

@@ -1,4 +1,4 @@
--- The loops that are still to come.
+-- The loops of a face.
 use Rattle.std.specs.Prelude.{List}
 use Rattle.numbers.specs.declared.math.Vec3.{Vec3}
 use Rattle.lists.specs.Pieces.{pieces}
@@ -6,5 +6,6 @@ use Rattle.tables.specs.Corners.{Corners}
 use Rattle.tables.specs.Rows.{rows}
 use Rattle.tables.specs.declared.loops.Loops.{Loops}
 
-unfoldable pub loops_left : Loops → List (Corners Vec3)
-loops_left s = pieces s.counts.now (rows s.corners.now)
+-- a list of corners for each loop; of an iterator, for each that is still to come
+abbrev pub loops_in : Loops → List (Corners Vec3)
+loops_in l = pieces l.counts.now (rows l.corners.now)

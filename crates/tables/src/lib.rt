@@ -6,6 +6,5 @@ pub mod copies;
 pub mod corners;
 pub mod loops;
 pub mod moves;
-pub mod pieces;
 pub mod ring_point;
 pub mod slices;

@@ -1,34 +1,45 @@
-// The loops of a face, which stand one behind the other in a table, one after the other.
-ghost use Rattle.std.specs.Prelude.{◌≡◌};
+// The loops of a face, which stand one behind the other in a table.
+ghost use Rattle.std.specs.Prelude.{◌≡◌, [], get_or};
 ghost use Rattle.std.specs.Iterator.{YieldsFirstBy, item_count};
-ghost use Rattle.lists.specs.Pieces.{pieces};
 ghost use Rattle.tables.specs.Rows.{rows};
-ghost use Rattle.tables.specs.Loops.{loops_left};
+ghost use Rattle.tables.specs.Loops.{loops_in};
 
 use super::corners::Corner;
 
-// A count for each loop; where they run past the end of the table, a loop is what is left.
+// A count for each loop; where they run past the end of the table, a loop is what is left. As an
+// iterator it gives its loops, one after the other.
 #[derive(Clone, Copy)]
 pub struct Loops<'a> {
-    corners: &'a [Corner],
-    counts: &'a [usize],
+    pub corners: &'a [Corner],
+    pub counts: &'a [usize],
 }
 
 impl<'a> Loops<'a> {
-    #[tactic(auto, unfolding(crate::specs::Loops::loops_left))]
     pub fn new(corners: &'a [Corner], counts: &'a [usize]) -> Loops<'a>
-        ensures { loops_left result ≡ pieces counts.now (rows corners.now) }
+        ensures { (result.corners.now ≡ corners.now) × (result.counts.now ≡ counts.now) }
     {
         Loops { corners, counts }
     }
 }
 
+// Loop k; past the last one, nothing.
+pub fn loop_of<'a>(loops: Loops<'a>, k: usize) -> &'a [Corner]
+    ensures { rows result.now ≡ get_or (loops_in loops.entry) k [] }
+{
+    for (i, one) in loops.enumerate() {
+        if i == k {
+            return one;
+        }
+    }
+    &[]
+}
+
 impl<'a> Iterator for Loops<'a> {
     type Item = &'a [Corner];
 
-    ghost next_gives = { YieldsFirstBy (λ one. rows one.now) loops_left };
+    ghost next_gives = { YieldsFirstBy (λ one. rows one.now) loops_in };
 
-    ghost remaining = { item_count loops_left };
+    ghost remaining = { item_count loops_in };
 
     fn next(&mut self) -> Option<&'a [Corner]> {
         let (count, counts) = self.counts.split_first()?;

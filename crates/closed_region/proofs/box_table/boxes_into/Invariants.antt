@@ -1,12 +1,10 @@
 use Rattle.std.proofs.Common.{map}
-use Rattle.lists.specs.Pieces.{pieces}
 use Rattle.lists.specs.Placed.{placed}
 use Rattle.lists.proofs.Remaining.{Remaining}
-use Rattle.tables.specs.Rows.{rows}
-use Rattle.tables.specs.Loops.{loops_left}
+use Rattle.tables.specs.Loops.{loops_in}
 use Rattle.closed_region.specs.Loops.{box_in}
 use Rattle.closed_region.proofs.box_table.boxes_into.Given as goal
 
 abbrev pub invariant-loop-i : goal.invariant-loop-i
 invariant-loop-i l =
-    Remaining (placed 0 (map box_in (pieces l.counts (rows l.t))) l.initial.boxes) l.boxes l.i-iterator.count (map box_in (loops_left l.i-iterator.iter))
+    Remaining (placed 0 (map box_in (loops_in l.loops)) l.initial.boxes) l.boxes l.i-iterator.count (map box_in (loops_in l.i-iterator.iter))

@@ -2,7 +2,7 @@ use Rattle.std.proofs.Common.{◌+◌, length, ap, sym, ◌∙◌, arith, rules}
 use Rattle.lists.proofs.Pieces.{length-pieces}
 use Rattle.std.proofs.lemmas.List.{length-append}
 use Rattle.tables.specs.Rows.{rows}
-use Rattle.tables.specs.Loops.{loops_left}
+use Rattle.tables.specs.Loops.{loops_in}
 use Rattle.tables.proofs.Rows.{length-rows}
 use Rattle.holes.specs.Others.{is_ring}
 use Rattle.holes.proofs.Later.{later, later-ring, later-hole, later-none, all-fit}
@@ -12,14 +12,14 @@ pub loop-i-init : goal.loop-i-init
 loop-i-init c =
     let begin = c.into_iter-i-iterator.ensures.into_iter_gives in
     let count = ap (λ e. e.count) begin ∙ c.enumerate-i-items.ensures.count in
-    let loops = ap (λ e. loops_left e.iter) begin ∙ ap loops_left c.enumerate-i-items.ensures.source ∙ c.new.ensures in
+    let loops = ap (λ e. loops_in e.iter) begin ∙ ap loops_in c.enumerate-i-items.ensures.source ∙ c.new.ensures in
     rw (count, loops) (omega arith)
 
 pub loop-i-init-derived : goal.loop-i-init-derived
 loop-i-init-derived c =
     let begin = c.into_iter-i-iterator.ensures.into_iter_gives in
     let count = ap (λ e. e.count) begin ∙ c.enumerate-i-items.ensures.count in
-    let loops = ap (λ e. loops_left e.iter) begin ∙ ap loops_left c.enumerate-i-items.ensures.source ∙ c.new.ensures in
+    let loops = ap (λ e. loops_in e.iter) begin ∙ ap loops_in c.enumerate-i-items.ensures.source ∙ c.new.ensures in
     let many = ap length loops ∙ length-pieces c.args.counts.now (rows c.args.t.now) in
     search rules
 
@@ -28,8 +28,8 @@ overflow_add-sum c =
     let s = c.in-Some.ensures.steps in
     let hole = ap (is_ring c.args.a c.args.b) (sym s.1) ∙ sym c.is_ring.ensures ∙ c.if-not-is_ring.true in
     let one = rows c.in-Some.one.now in
-    let rest = loops_left c.next.new.self.iter in
-    let left = later-hole c.args.a c.args.b c.loop-i.i-iterator.count (loops_left c.loop-i.i-iterator.iter) one rest s.0 hole in
+    let rest = loops_in c.next.new.self.iter in
+    let left = later-hole c.args.a c.args.b c.loop-i.i-iterator.count (loops_in c.loop-i.i-iterator.iter) one rest s.0 hole in
     let long = ap length left ∙ length-append one (later c.args.a c.args.b (c.loop-i.i-iterator.count + 1) rest) in
     omega (arith, c.loop-i.invariant, long, length-rows c.in-Some.one.now, all-fit c.args.a c.args.b c.args.counts.now (rows c.args.t.now), length-rows c.args.t.now)
 
@@ -38,8 +38,8 @@ loop-i-preserved-then-not-is_ring c =
     let s = c.in-Some.ensures.steps in
     let hole = ap (is_ring c.args.a c.args.b) (sym s.1) ∙ sym c.is_ring.ensures ∙ c.if-not-is_ring.true in
     let one = rows c.in-Some.one.now in
-    let rest = loops_left c.next.new.self.iter in
-    let left = later-hole c.args.a c.args.b c.loop-i.i-iterator.count (loops_left c.loop-i.i-iterator.iter) one rest s.0 hole in
+    let rest = loops_in c.next.new.self.iter in
+    let left = later-hole c.args.a c.args.b c.loop-i.i-iterator.count (loops_in c.loop-i.i-iterator.iter) one rest s.0 hole in
     let long = ap length left ∙ length-append one (later c.args.a c.args.b (c.loop-i.i-iterator.count + 1) rest) in
     rw s.2 (omega (arith, c.loop-i.invariant, long, length-rows c.in-Some.one.now))
 
@@ -47,12 +47,12 @@ pub loop-i-preserved : goal.loop-i-preserved
 loop-i-preserved c =
     let s = c.in-Some.ensures.steps in
     let ring = ap (is_ring c.args.a c.args.b) (sym s.1) ∙ sym c.is_ring.ensures ∙ c.if-not-is_ring.false in
-    let left = later-ring c.args.a c.args.b c.loop-i.i-iterator.count (loops_left c.loop-i.i-iterator.iter) (rows c.in-Some.one.now) (loops_left c.next.new.self.iter) s.0 ring in
+    let left = later-ring c.args.a c.args.b c.loop-i.i-iterator.count (loops_in c.loop-i.i-iterator.iter) (rows c.in-Some.one.now) (loops_in c.next.new.self.iter) s.0 ring in
     rw s.2 (ap (λ w. c.loop-i.sum + length w) (sym left) ∙ c.loop-i.invariant)
 
 pub returns : goal.returns
 returns c =
-    let none = ap length (later-none c.args.a c.args.b c.loop-i.i-iterator.count (loops_left c.loop-i.i-iterator.iter) c.in-None.ensures.steps.0.0) in (
+    let none = ap length (later-none c.args.a c.args.b c.loop-i.i-iterator.count (loops_in c.loop-i.i-iterator.iter) c.in-None.ensures.steps.0.0) in (
       omega (arith, c.loop-i.invariant, none),
       omega (arith, c.loop-i.invariant, none, all-fit c.args.a c.args.b c.args.counts.now (rows c.args.t.now)),
     )

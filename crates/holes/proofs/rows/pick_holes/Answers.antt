@@ -4,7 +4,7 @@ use Rattle.lists.proofs.Placed.{placed_short}
 use Rattle.lists.specs.Pieces.{pieces}
 use Rattle.lists.proofs.Pieces.{length-pieces}
 use Rattle.tables.specs.Rows.{rows}
-use Rattle.tables.specs.Loops.{loops_left}
+use Rattle.tables.specs.Loops.{loops_in}
 use Rattle.tables.proofs.PartRows.{rows-placed}
 use Rattle.tables.proofs.Rows.{length-rows}
 use Rattle.holes.specs.Others.{is_ring}
@@ -22,14 +22,14 @@ loop-i-init c =
     let enough = leb-true (c.args.at + c.count_rows.result) (length c.args.out.now) (sym c.has_room.ensures ∙ c.if-not-has_room.false) in
     let begin = c.into_iter-i-iterator.ensures.into_iter_gives in
     let count = ap (λ e. e.count) begin ∙ c.enumerate-i-items.ensures.count in
-    let loops = ap (λ e. loops_left e.iter) begin ∙ ap loops_left c.enumerate-i-items.ensures.source ∙ c.new.ensures in
+    let loops = ap (λ e. loops_in e.iter) begin ∙ ap loops_in c.enumerate-i-items.ensures.source ∙ c.new.ensures in
     rw (count, loops) (record { is = refl; room = omega (arith, enough, c.count_rows.ensures.0, length-rows c.args.out.now) })
 
 pub loop-i-init-derived : goal.loop-i-init-derived
 loop-i-init-derived c =
     let begin = c.into_iter-i-iterator.ensures.into_iter_gives in
     let count = ap (λ e. e.count) begin ∙ c.enumerate-i-items.ensures.count in
-    let loops = ap (λ e. loops_left e.iter) begin ∙ ap loops_left c.enumerate-i-items.ensures.source ∙ c.new.ensures in
+    let loops = ap (λ e. loops_in e.iter) begin ∙ ap loops_in c.enumerate-i-items.ensures.source ∙ c.new.ensures in
     let many = ap length loops ∙ length-pieces c.args.counts.now (rows c.args.t.now) in
     search rules
 

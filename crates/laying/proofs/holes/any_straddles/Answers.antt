@@ -1,27 +1,27 @@
 use Rattle.std.proofs.Common.{◌||◌, Bool, ap, sym, ◌∙◌}
 use Rattle.tables.specs.Rows.{rows}
-use Rattle.tables.specs.Loops.{loops_left}
+use Rattle.tables.specs.Loops.{loops_in}
 use Rattle.bands.specs.Rings.{any_straddles}
 use Rattle.laying.proofs.EachHole.{straddles-first, straddles-none}
 use Rattle.laying.proofs.holes.any_straddles.Goals as goal
 
 pub loop-hole-init : goal.loop-hole-init
 loop-hole-init c =
-    ap (any_straddles c.args.period c.args.lo) (ap loops_left c.into_iter-hole-iterator.ensures.into_iter_gives ∙ c.new-hole-items.ensures)
+    ap (any_straddles c.args.period c.args.lo) (ap loops_in c.into_iter-hole-iterator.ensures.into_iter_gives ∙ c.new-hole-items.ensures)
 
 pub returns-then-straddles : goal.returns-then-straddles
 returns-then-straddles c =
-    let later = any_straddles c.args.period c.args.lo (loops_left c.next.new.self) in
+    let later = any_straddles c.args.period c.args.lo (loops_in c.next.new.self) in
     let here = sym c.straddles.ensures ∙ c.if-straddles.true in
     sym (sym c.loop-hole.invariant ∙ ap (any_straddles c.args.period c.args.lo) c.in-Some.ensures.steps
-    ∙ straddles-first c.args.period c.args.lo (rows c.in-Some.hole.now) (loops_left c.next.new.self) ∙ ap (λ (b : Bool). b || later) here)
+    ∙ straddles-first c.args.period c.args.lo (rows c.in-Some.hole.now) (loops_in c.next.new.self) ∙ ap (λ (b : Bool). b || later) here)
 
 pub loop-hole-preserved : goal.loop-hole-preserved
 loop-hole-preserved c =
-    let later = any_straddles c.args.period c.args.lo (loops_left c.next.new.self) in
+    let later = any_straddles c.args.period c.args.lo (loops_in c.next.new.self) in
     let here = sym c.straddles.ensures ∙ c.if-straddles.false in
     sym (sym c.loop-hole.invariant ∙ ap (any_straddles c.args.period c.args.lo) c.in-Some.ensures.steps
-    ∙ straddles-first c.args.period c.args.lo (rows c.in-Some.hole.now) (loops_left c.next.new.self) ∙ ap (λ (b : Bool). b || later) here)
+    ∙ straddles-first c.args.period c.args.lo (rows c.in-Some.hole.now) (loops_in c.next.new.self) ∙ ap (λ (b : Bool). b || later) here)
 
 pub returns : goal.returns
 returns c =

@@ -3,7 +3,7 @@ use Rattle.lists.specs.Pieces.{pieces}
 use Rattle.lists.proofs.Remaining.{remaining, remaining_turn, remaining_end}
 use Rattle.tables.specs.Corners.{us}
 use Rattle.tables.specs.Rows.{rows}
-use Rattle.tables.specs.Loops.{loops_left}
+use Rattle.tables.specs.Loops.{loops_in}
 use Rattle.seam.specs.Gap.{span_of}
 use Rattle.laying.proofs.EachHole.{not_covering, length-spans, span_of_hole, spans_by_hole}
 use Rattle.laying.proofs.holes.spans_into.Goals as goal
@@ -16,7 +16,7 @@ loop-i-init c =
     let spans = map span_of (pieces c.args.counts.now (us (rows c.args.t.now))) in
     let begin = c.into_iter-i-iterator.ensures.into_iter_gives in
     let count = ap (λ e. e.count) begin ∙ c.enumerate-i-items.ensures.count in
-    let loops = ap (λ e. loops_left e.iter) begin ∙ ap loops_left c.enumerate-i-items.ensures.source ∙ c.new.ensures in
+    let loops = ap (λ e. loops_in e.iter) begin ∙ ap loops_in c.enumerate-i-items.ensures.source ∙ c.new.ensures in
     let left = ap (map span_of_hole) loops ∙ sym (spans_by_hole c.args.counts.now (rows c.args.t.now)) in
     rw (count, left) (remaining spans c.args.out.now (omega (arith, c.if-out-counts.false, length-spans c.args.counts.now c.args.t.now c.args.out.now)))
 
@@ -24,7 +24,7 @@ pub loop-i-preserved : goal.loop-i-preserved
 loop-i-preserved c =
     let s = c.in-Some.ensures.steps in
     let left = ap (map span_of_hole) s.0 in
-    rw (s.1, s.2, c.span_of.ensures) (remaining_turn _ _ _ _ (span_of_hole (rows c.in-Some.hole.now)) (map span_of_hole (loops_left c.next.new.self.iter)) c.loop-i.invariant left)
+    rw (s.1, s.2, c.span_of.ensures) (remaining_turn _ _ _ _ (span_of_hole (rows c.in-Some.hole.now)) (map span_of_hole (loops_in c.next.new.self.iter)) c.loop-i.invariant left)
 
 pub returns : goal.returns
 returns c = remaining_end _ _ _ _ c.loop-i.invariant (ap (map span_of_hole) c.in-None.ensures.steps.0.0)

@@ -3,7 +3,7 @@ use Rattle.lists.proofs.Pieces.{length-pieces}
 use Rattle.lists.specs.Placed.{placed}
 use Rattle.tables.proofs.Rows.{length-rows}
 use Rattle.tables.specs.Rows.{rows}
-use Rattle.tables.specs.Loops.{loops_left}
+use Rattle.tables.specs.Loops.{loops_in}
 use Rattle.loop_records.proofs.Recorded.{no_recording, recording, recording_room, recording_turn, recording_end}
 use Rattle.loop_records.proofs.measure.measure_loops.Goals as goal
 
@@ -15,14 +15,14 @@ pub loop-i-init : goal.loop-i-init
 loop-i-init c =
     let begin = c.into_iter-i-iterator.ensures.into_iter_gives in
     let count = ap (λ e. e.count) begin ∙ c.enumerate-i-items.ensures.count in
-    let loops = ap (λ e. loops_left e.iter) begin ∙ ap loops_left c.enumerate-i-items.ensures.source ∙ c.new.ensures in
+    let loops = ap (λ e. loops_in e.iter) begin ∙ ap loops_in c.enumerate-i-items.ensures.source ∙ c.new.ensures in
     rw (count, loops) (recording c.args.period c.args.counts.now (rows c.args.t.now) (replicate 16 c.no_loop-loops.result) (omega (arith, c.if-counts-gt16.false)) refl)
 
 pub loop-i-init-derived : goal.loop-i-init-derived
 loop-i-init-derived c =
     let begin = c.into_iter-i-iterator.ensures.into_iter_gives in
     let count = ap (λ e. e.count) begin ∙ c.enumerate-i-items.ensures.count in
-    let loops = ap (λ e. loops_left e.iter) begin ∙ ap loops_left c.enumerate-i-items.ensures.source ∙ c.new.ensures in
+    let loops = ap (λ e. loops_in e.iter) begin ∙ ap loops_in c.enumerate-i-items.ensures.source ∙ c.new.ensures in
     let many = ap length loops ∙ length-pieces c.args.counts.now (rows c.args.t.now) in
     search rules
 

@@ -2,18 +2,15 @@ use Rattle.std.proofs.Common.{◌∷◌, length, take, drop, sym, ap, ap₂, ◌
 use Rattle.lists.specs.Pieces.{pieces}
 use Rattle.lists.proofs.Pieces.{no-pieces}
 use Rattle.tables.specs.Rows.{rows}
-use Rattle.tables.specs.Loops.{loops_left}
-use Rattle.tables.proofs.FirstLoop.{first_loop}
+use Rattle.tables.proofs.LoopLaws.{first_loop}
 use Rattle.tables.proofs.loops.LoopsIterator.next.Goals as goal
 
 pub returns-in_err-count-clause-steps : goal.returns-in_err-count-clause-steps
-unfolding loops_left
 returns-in_err-count-clause-steps c =
     let none = no-pieces c.args.self.now.counts.now (rows c.args.self.now.corners.now) c.in_err-count.ensures.cases in
     rw c.from_residual.ensures (none, none)
 
 pub returns-clause-steps : goal.returns-clause-steps
-unfolding loops_left
 returns-clause-steps c =
     let t = c.args.self.now.corners.now in
     let front = c.split_at.ensures.front ∙ ap (λ k. take k t) c.min.ensures in

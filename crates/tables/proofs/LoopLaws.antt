@@ -1,11 +1,20 @@
--- The loops that are still to come: the first of them, and those behind it.
+-- The loops of a face: how many they are, and the first of them beside those behind it.
 use Rattle.std.proofs.Common.{◌≡◌, ℕ, List, ◌∷◌, length, take, drop, sym, ap, ap₂, ◌∙◌}
 use Rattle.std.specs.Prelude.{min}
 use Rattle.lists.specs.Pieces.{pieces}
-use Rattle.lists.proofs.Pieces.{take-most, drop-most}
+use Rattle.lists.proofs.Pieces.{take-most, drop-most, length-pieces}
 use Rattle.tables.specs.Rows.{rows}
+use Rattle.tables.specs.Loops.{loops_in}
+use Rattle.tables.specs.declared.loops.Loops.{Loops}
 use Rattle.tables.specs.declared.corners.Corner.{Corner as Held}
 use Rattle.tables.proofs.Rows.{rows_take, rows_drop}
+
+-- as `Loops::new` makes them
+pub loops_made : (loops : Loops) {t : List Held} {counts : List ℕ} → (loops.corners.now ≡ t) × (loops.counts.now ≡ counts) → loops_in loops ≡ pieces counts (rows t)
+loops_made loops e = ap₂ (λ t ns. pieces ns (rows t)) e.0 e.1
+
+pub loops_counted : (loops : Loops) → length (loops_in loops) ≡ length loops.counts.now
+loops_counted loops = length-pieces loops.counts.now (rows loops.corners.now)
 
 pub first_loop : (n : ℕ) (ns : List ℕ) (t : List Held) → let k = min n (length t) in
     pieces (n ∷ ns) (rows t) ≡ rows (take k t) ∷ pieces ns (rows (drop k t))
