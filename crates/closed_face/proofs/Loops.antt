@@ -6,14 +6,16 @@ use native.Mathlib.Decide.{dec_le}
 use native.Mathlib.Numerals.{add-one}
 use native.Mathlib.Omega.{arith}
 use lib.ListN.{length, get_or, take, drop, length-append, length-take, length-drop, take-append-drop}
-use lib.Seq.{take-suc, take_all, take_at, drop_at}
+use lib.Seq.{take_all, take-nil, take_at, drop_at}
 use Rattle.numbers.specs.declared.math.Vec3.{Vec3}
 use Rattle.lists.specs.Pieces.{pieces}
 use Rattle.lists.specs.Placed.{placed}
-use Rattle.lists.proofs.Pieces.{Cutting, cutting, cutting_turn, cutting_piece, length-pieces}
+use Rattle.lists.proofs.Pieces.{length-pieces, pieces_fit}
 use Rattle.lists.specs.Parts.{part_of}
 use Rattle.tables.specs.Corners.{Corners}
+use Rattle.tables.specs.Loops.{loops_in}
 use Rattle.tables.specs.Rows.{rows}
+use Rattle.tables.specs.declared.loops.Loops.{Loops}
 use Rattle.tables.specs.declared.corners.Corner.{Corner as Held}
 use Rattle.tables.proofs.PartRows.{rows-placed}
 use Rattle.tables.proofs.Rows.{length-rows, rows_take, rows_drop, rows_append}
@@ -85,57 +87,55 @@ module _ {A : Type 0} where
 
 -- ---- where a loop begins
 
-module _ (t : List Held) (counts : List ℕ) (k m : ℕ) where
-  abbrev ls : List (Corners Vec3)
-  ls = pieces counts (rows t)
+module _ (loops : Loops) (k : ℕ) where
+  front_rows : length (flatten (take k (loops_in loops))) ≤ length loops.corners.now
+  front_rows =
+      let ls = loops_in loops in
+      let whole = ap flatten (take-append-drop k ls) in
+      let parts = ap length (flatten_append (take k ls) (drop k ls)) ∙ length-append (flatten (take k ls)) (flatten (drop k ls)) in
+      let all = ap length whole in
+      omega (arith, parts, all, pieces_fit loops.counts.now (rows loops.corners.now), length-rows loops.corners.now)
 
-  pub record Beginning (from i : ℕ) : Type 0 where
-    pub least : m ≡ min (length counts) k
-    pub far : i ≤ m
-    pub low : from ≤ length t
-    pub cut : Cutting counts (rows t) from i
-    pub at : length (flatten (take i ls)) ≡ from
+  -- n loops are passed, which have `from` rows, and `left` are still to come
+  pub record Beginning (from n : ℕ) (left : List (Corners Vec3)) : Type 0 where
+    pub far : n ≤ k
+    pub sum : from + length (flatten (take (k - n) left)) ≡ length (flatten (take k (loops_in loops)))
 
-  pub beginning : m ≡ min (length counts) k → Beginning 0 0
-  unfolding flatten
-  beginning l = record { least = l; far = omega arith; low = omega arith; cut = cutting counts (rows t); at = refl }
+  pub beginning : Beginning 0 0 (loops_in loops)
+  beginning =
+      let all : k - 0 ≡ k = omega arith in
+      let sum = ap (λ (j : ℕ). length (flatten (take j (loops_in loops)))) all in
+      record { far = omega arith; sum = omega (arith, sum) }
 
-  module _ (from i : ℕ) (b : Beginning from i) where
-    pub beginning_turn : (to : ℕ) → i < m → to ≡ min (from + get_or counts i 0) (length t) → Beginning to (i + 1)
-    beginning_turn to h e = record {
-      least = b.least;
-      far = omega arith;
-      low = omega arith;
-      cut = cutting_turn counts (rows t) from to i b.cut below to_is;
-      at =
-          ap (λ (j : ℕ). length (flatten (take j ls))) (add-one i) ∙ ap (λ (l : List (Corners Vec3)). length (flatten l)) (take-suc ls i [] (let p = length-pieces counts (rows t) in let q = below in omega arith))
-          ∙ ap length (flatten_snoc (take i ls) (get_or ls i [])) ∙ length-append (flatten (take i ls)) (get_or ls i [])
-          ∙ (let a = b.at in let p = ap length piece in let q = length-take (to - from) (drop from (rows t)) in let d = length-drop from (rows t) in let low = b.cut.low in let r = to_is in omega arith);
-    }
-      where
-        below : i < length counts
-        below = let l = b.least in omega arith
+  module _ (from n : ℕ) (left : List (Corners Vec3)) (b : Beginning from n left) where
+    pub at_loop : n ≡ k → (from ≡ length (flatten (take k (loops_in loops)))) × (from ≤ length loops.corners.now)
+    unfolding flatten
+    at_loop e =
+        let none : k - n ≡ 0 = omega arith in
+        let sum = ap (λ (j : ℕ). from + length (flatten (take j left))) (sym none) ∙ b.sum in
+        (omega (arith, sum), omega (arith, sum, front_rows))
 
-        to_is : to ≡ min (from + get_or counts i 0) (length (rows t))
-        to_is = e ∙ ap (min (from + get_or counts i 0)) (sym (length-rows t))
+    pub past_all : left ≡ [] → (from ≡ length (flatten (take k (loops_in loops)))) × (from ≤ length loops.corners.now)
+    unfolding flatten
+    past_all e =
+        let sum = ap (λ (l : List (Corners Vec3)). from + length (flatten (take (k - n) l))) (sym e) ∙ b.sum in
+        let none = ap (λ (l : List (Corners Vec3)). length (flatten l)) (take-nil {A = Corners Vec3} (k - n)) in
+        (omega (arith, sum, none), omega (arith, sum, none, front_rows))
 
-        piece : get_or ls i [] ≡ take (to - from) (drop from (rows t))
-        piece = cutting_piece counts (rows t) from to i b.cut below to_is
+    module _ (one : Corners Vec3) (others : List (Corners Vec3)) (e : left ≡ one ∷ others) (before : n < k) where
+      passed : from + length one + length (flatten (take (k - (n + 1)) others)) ≡ length (flatten (take k (loops_in loops)))
+      unfolding flatten
+      passed =
+          let more : k - n ≡ suc (k - (n + 1)) = omega arith in
+          let sum = (λ i. from + length (flatten (take (sym more i) (sym e i)))) ∙ b.sum in
+          let both = length-append one (flatten (take (k - (n + 1)) others)) in
+          omega (arith, sum, both)
 
-    pub beginning_end : m ≤ i → (from ≡ length (flatten (take k ls))) × (from ≤ length t)
-    beginning_end h =
-        let p = length-pieces counts (rows t) in
-        let l = b.least in
-        let f = b.far in
-        (sym b.at ∙ ap (λ (x : List (Corners Vec3)). length (flatten x)) (by_room (dec_le k (length counts))), b.low)
-      where
-        by_room : Dec (k ≤ length counts) → take i ls ≡ take k ls
-        by_room (yes g) = let l = b.least in let f = b.far in let e : i ≡ k = omega arith in ap (λ (j : ℕ). take j ls) e
-        by_room (no g) =
-            let p = length-pieces counts (rows t) in
-            let l = b.least in
-            let f = b.far in
-            take_all i ls (omega arith) ∙ sym (take_all k ls (omega arith))
+      pub pass_room : from + length one ≤ length loops.corners.now
+      pass_room = omega (arith, passed, front_rows)
+
+      pub pass_loop : Beginning (from + length one) (n + 1) others
+      pass_loop = record { far = omega (arith, before); sum = passed }
 
 -- ---- one loop before the others, in a table
 

@@ -63,9 +63,11 @@ pub fn closed_face(
     ensures out_counts_after { out_counts.new ≡ cond (ltb (outer_found counts.now (rows t.old) areas.old (length boxes.old)) (length counts.now)) (placed 0 (part_first (outer_found counts.now (rows t.old) areas.old (length boxes.old)) 1 counts.now) out_counts.old) out_counts.old }
     ensures out_areas_after { out_areas.new ≡ placed 0 (part_first (outer_found counts.now (rows t.old) areas.old (length boxes.old)) 1 (take (length counts.now) areas.new)) out_areas.old }
 {
-    let outer = closed_region(Loops::new(t, counts), areas, boxes);
+    let given = Loops { corners: t, counts };
+    let outer = closed_region(given, areas, boxes);
     rephase_holes(t, counts, areas, outer, u, v);
-    loop_first(Loops::new(t, counts), outer, out);
+    let moved = Loops { corners: t, counts };
+    loop_first(moved, outer, out);
     // No loop is the outer one where there are none.
     if outer < counts.len() {
         part_first(counts, outer, 1, out_counts);

@@ -109,7 +109,7 @@ pub fn rephase_holes(
     if areas.len() < counts.len() {
         return;
     }
-    let b = branch_of(loop_of(Loops::new(t, counts), outer), u, v);
+    let b = branch_of(loop_of(Loops { corners: t, counts }, outer), u, v);
     let mut from = 0;
     for (k, &n) in counts.iter().enumerate() {
         let to = piece_end(t.len(), from, n);

@@ -24,7 +24,10 @@ fn write_filled(face: FilledFace, out: &ResultLoops, res: &mut [u8]) -> usize
     ensures { WrittenBytes face.path face.loops out.now.counts out.now.areas out.now.corners res.old res.new result }
 {
     let l = face.loops.min(out.counts.len());
-    let loops = Loops::new(&out.corners, &out.counts[..l]);
+    let loops = Loops {
+        corners: &out.corners,
+        counts: &out.counts[..l],
+    };
     write_result(face.path, loops, &out.areas, res).unwrap_or(0)
 }
 

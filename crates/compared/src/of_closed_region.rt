@@ -25,7 +25,7 @@ pub extern "C" fn compared_closed_region(
     ensures value { result ≡ outer_among (pieces counts.now (rows t.now)) areas.now (length boxes.old) }
     ensures boxes_after { boxes.new ≡ placed 0 (map box_in (pieces counts.now (rows t.now))) boxes.old }
 {
-    closed_region::region::closed_region(Loops::new(t, counts), areas, boxes)
+    closed_region::region::closed_region(Loops { corners: t, counts }, areas, boxes)
 }
 
 #[unsafe(no_mangle)]

@@ -66,5 +66,5 @@ pub extern "C" fn compared_write_result(
     ensures value { result ≡ counted (then_some (result_fits counts.now (length areas.now) (length (rows t.now)) (length out.old)) (length_of counts.now)) }
     ensures out_after { out.new ≡ filled_if (result_fits counts.now (length areas.now) (length (rows t.now)) (length out.old)) (encode (table_result (path_of (path_from path)) counts.now areas.now (rows t.now))) out.old }
 {
-    Counted::from(results::write_result(path_from(path), Loops::new(t, counts), areas, out))
+    Counted::from(results::write_result(path_from(path), Loops { corners: t, counts }, areas, out))
 }

@@ -84,7 +84,10 @@ fn reseam_with_room(
         return;
     }
     onto_all(holes, counts, lo, period);
-    let onto = Loops::new(holes, counts);
+    let onto = Loops {
+        corners: holes,
+        counts,
+    };
     if !any_straddles(onto, lo, period) {
         return;
     }

@@ -9,10 +9,6 @@ use Rattle.tables.specs.declared.loops.Loops.{Loops}
 use Rattle.tables.specs.declared.corners.Corner.{Corner as Held}
 use Rattle.tables.proofs.Rows.{rows_take, rows_drop}
 
--- as `Loops::new` makes them
-pub loops_made : (loops : Loops) {t : List Held} {counts : List ℕ} → (loops.corners.now ≡ t) × (loops.counts.now ≡ counts) → loops_in loops ≡ pieces counts (rows t)
-loops_made loops e = ap₂ (λ t ns. pieces ns (rows t)) e.0 e.1
-
 pub loops_counted : (loops : Loops) → length (loops_in loops) ≡ length loops.counts.now
 loops_counted loops = length-pieces loops.counts.now (rows loops.corners.now)
 

@@ -14,14 +14,6 @@ pub struct Loops<'a> {
     pub counts: &'a [usize],
 }
 
-impl<'a> Loops<'a> {
-    pub fn new(corners: &'a [Corner], counts: &'a [usize]) -> Loops<'a>
-        ensures { (result.corners.now ≡ corners.now) × (result.counts.now ≡ counts.now) }
-    {
-        Loops { corners, counts }
-    }
-}
-
 // Loop k; past the last one, nothing.
 pub fn loop_of<'a>(loops: Loops<'a>, k: usize) -> &'a [Corner]
     ensures { rows result.now ≡ get_or (loops_in loops.entry) k [] }

@@ -1,11 +1,8 @@
 use Rattle.results.proofs.Whole as whole
 use Rattle.results.proofs.put_result.Goals as goal
 
-pub slice_bounds-put_parameters-end : goal.slice_bounds-put_parameters-end
-slice_bounds-put_parameters-end c = whole.front_long c.requires
-
-pub slice_bounds-put_positions-end : goal.slice_bounds-put_positions-end
-slice_bounds-put_positions-end c = whole.front_long c.requires
+pub slice_bounds-t-end : goal.slice_bounds-t-end
+slice_bounds-t-end c = whole.front_long c.requires
 
 pub returns : goal.returns
 returns c = whole.whole c.requires

@@ -9,24 +9,24 @@ returns-in_err-size c = rw c.from_residual.ensures (whole.too_large c.in_err-siz
 pub returns-then-out-size : goal.returns-then-out-size
 returns-then-out-size c = whole.short_out (whole.sized c.in_ok-size.ensures) c.if-out-size.true
 
-pub returns-then-areas-counts : goal.returns-then-areas-counts
-returns-then-areas-counts c = whole.short_areas (whole.sized c.in_ok-size.ensures)
-    c.if-areas-counts.true
+pub returns-then-areas-loops : goal.returns-then-areas-loops
+returns-then-areas-loops c = whole.short_areas (whole.sized c.in_ok-size.ensures)
+    c.if-areas-loops.true
 
-pub returns-then-t-size : goal.returns-then-t-size
-returns-then-t-size c = whole.short_columns
+pub returns-then-loops-size : goal.returns-then-loops-size
+returns-then-loops-size c = whole.short_columns
     (whole.sized c.in_ok-size.ensures)
-    (sym (length-rows c.args.t.now)) c.if-t-size.true
+    (sym (length-rows c.args.loops.corners.now)) c.if-loops-size.true
 
 pub put_result-requires : goal.put_result-requires
 put_result-requires c = whole.fitting
     (whole.sized c.in_ok-size.ensures)
-    c.if-out-size.false c.if-areas-counts.false (sym (length-rows c.args.t.now))
-    c.if-t-size.false
+    c.if-out-size.false c.if-areas-loops.false (sym (length-rows c.args.loops.corners.now))
+    c.if-loops-size.false
 
 pub returns : goal.returns
 returns c = whole.done
     (whole.sized c.in_ok-size.ensures)
-    (whole.fitting (whole.sized c.in_ok-size.ensures) c.if-out-size.false c.if-areas-counts.false (sym (length-rows c.args.t.now))
-    c.if-t-size.false)
+    (whole.fitting (whole.sized c.in_ok-size.ensures) c.if-out-size.false c.if-areas-loops.false (sym (length-rows c.args.loops.corners.now))
+    c.if-loops-size.false)
     c.from.ensures c.put_result.ensures

@@ -1,5 +1,3 @@
-use Rattle.std.proofs.Common.{[], get_or, ap, ◌∙◌}
-use Rattle.tables.proofs.LoopLaws.{loops_made}
 use Rattle.closed_region.proofs.MovedHoles.{rephasing, rephasing_turn, still, no_outer, no_areas, holes_left}
 use Rattle.closed_region.proofs.holes.rephase_holes.Goals as goal
 
@@ -21,7 +19,5 @@ loop-k-preserved c = rephasing_turn _ _ _ _ _ _ _ _ _ c.loop-k.invariant _ _ _ c
 
 pub returns : goal.returns
 returns c =
-    let given = loops_made c.new.result c.new.ensures in
-    let outer = c.loop_of.ensures ∙ ap (λ ls. get_or ls c.args.outer []) given in
-    let r = holes_left _ _ _ _ _ _ _ _ _ _ _ _ outer c.branch_of-b.ensures c.loop-k.invariant c.loop-k-test.false in
+    let r = holes_left _ _ _ _ _ _ _ _ _ _ _ _ c.loop_of.ensures c.branch_of-b.ensures c.loop-k.invariant c.loop-k-test.false in
     record { t_after = r.0; areas_after = r.1 }

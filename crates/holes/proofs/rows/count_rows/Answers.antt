@@ -1,27 +1,18 @@
 use Rattle.std.proofs.Common.{◌+◌, length, ap, sym, ◌∙◌, arith, rules}
-use Rattle.lists.proofs.Pieces.{length-pieces}
 use Rattle.std.proofs.lemmas.List.{length-append}
 use Rattle.tables.specs.Rows.{rows}
 use Rattle.tables.specs.Loops.{loops_in}
+use Rattle.tables.proofs.LoopLaws.{loops_counted}
 use Rattle.tables.proofs.Rows.{length-rows}
 use Rattle.holes.specs.Others.{is_ring}
 use Rattle.holes.proofs.Later.{later, later-ring, later-hole, later-none, all-fit}
 use Rattle.holes.proofs.rows.count_rows.Goals as goal
 
 pub loop-i-init : goal.loop-i-init
-loop-i-init c =
-    let begin = c.into_iter-i-iterator.ensures.into_iter_gives in
-    let count = ap (λ e. e.count) begin ∙ c.enumerate-i-items.ensures.count in
-    let loops = ap (λ e. loops_in e.iter) begin ∙ ap loops_in c.enumerate-i-items.ensures.source ∙ c.new.ensures in
-    rw (count, loops) (omega arith)
+loop-i-init c = rw (c.into_iter-i-iterator.ensures.into_iter_gives, c.enumerate-i-items.ensures.count, c.enumerate-i-items.ensures.source) (omega arith)
 
 pub loop-i-init-derived : goal.loop-i-init-derived
-loop-i-init-derived c =
-    let begin = c.into_iter-i-iterator.ensures.into_iter_gives in
-    let count = ap (λ e. e.count) begin ∙ c.enumerate-i-items.ensures.count in
-    let loops = ap (λ e. loops_in e.iter) begin ∙ ap loops_in c.enumerate-i-items.ensures.source ∙ c.new.ensures in
-    let many = ap length loops ∙ length-pieces c.args.counts.now (rows c.args.t.now) in
-    search rules
+loop-i-init-derived c = let many = loops_counted c.args.loops in search rules
 
 pub overflow_add-sum : goal.overflow_add-sum
 overflow_add-sum c =
@@ -31,7 +22,7 @@ overflow_add-sum c =
     let rest = loops_in c.next.new.self.iter in
     let left = later-hole c.args.a c.args.b c.loop-i.i-iterator.count (loops_in c.loop-i.i-iterator.iter) one rest s.0 hole in
     let long = ap length left ∙ length-append one (later c.args.a c.args.b (c.loop-i.i-iterator.count + 1) rest) in
-    omega (arith, c.loop-i.invariant, long, length-rows c.in-Some.one.now, all-fit c.args.a c.args.b c.args.counts.now (rows c.args.t.now), length-rows c.args.t.now)
+    omega (arith, c.loop-i.invariant, long, length-rows c.in-Some.one.now, all-fit c.args.a c.args.b c.args.loops.counts.now (rows c.args.loops.corners.now), length-rows c.args.loops.corners.now)
 
 pub loop-i-preserved-then-not-is_ring : goal.loop-i-preserved-then-not-is_ring
 loop-i-preserved-then-not-is_ring c =
@@ -54,5 +45,5 @@ pub returns : goal.returns
 returns c =
     let none = ap length (later-none c.args.a c.args.b c.loop-i.i-iterator.count (loops_in c.loop-i.i-iterator.iter) c.in-None.ensures.steps.0.0) in (
       omega (arith, c.loop-i.invariant, none),
-      omega (arith, c.loop-i.invariant, none, all-fit c.args.a c.args.b c.args.counts.now (rows c.args.t.now)),
+      omega (arith, c.loop-i.invariant, none, all-fit c.args.a c.args.b c.args.loops.counts.now (rows c.args.loops.corners.now)),
     )

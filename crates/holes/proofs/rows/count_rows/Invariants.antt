@@ -1,10 +1,8 @@
 use Rattle.std.proofs.Common.{◌≡◌, ◌+◌, length}
-use Rattle.lists.specs.Pieces.{pieces}
-use Rattle.tables.specs.Rows.{rows}
 use Rattle.tables.specs.Loops.{loops_in}
 use Rattle.holes.proofs.Later.{later}
 use Rattle.holes.proofs.rows.count_rows.Given as goal
 
 abbrev pub invariant-loop-i : goal.invariant-loop-i
 invariant-loop-i l =
-    l.sum + length (later l.a l.b l.i-iterator.count (loops_in l.i-iterator.iter)) ≡ length (later l.a l.b 0 (pieces l.counts (rows l.t)))
+    l.sum + length (later l.a l.b l.i-iterator.count (loops_in l.i-iterator.iter)) ≡ length (later l.a l.b 0 (loops_in l.loops))

@@ -1,11 +1,10 @@
 use Rattle.std.proofs.Common.{◌+◌, length, refl, ap, sym, ◌∙◌, arith, rules}
 use borrow.Author.Tests.{leb-true, leb-false}
 use Rattle.lists.proofs.Placed.{placed_short}
-use Rattle.lists.specs.Pieces.{pieces}
-use Rattle.lists.proofs.Pieces.{length-pieces}
 use Rattle.tables.specs.Rows.{rows}
 use Rattle.tables.specs.Loops.{loops_in}
 use Rattle.tables.proofs.PartRows.{rows-placed}
+use Rattle.tables.proofs.LoopLaws.{loops_counted}
 use Rattle.tables.proofs.Rows.{length-rows}
 use Rattle.holes.specs.Others.{is_ring}
 use Rattle.holes.proofs.Later.{later, picking-ring, picking_room, picking-hole, picking-end}
@@ -13,25 +12,17 @@ use Rattle.holes.proofs.rows.pick_holes.Goals as goal
 
 pub returns-then-not-has_room : goal.returns-then-not-has_room
 returns-then-not-has_room c =
-    let all = later c.args.a c.args.b 0 (pieces c.args.counts.now (rows c.args.t.now)) in
+    let all = later c.args.a c.args.b 0 (loops_in c.args.loops) in
     let short = leb-false (c.args.at + c.count_rows.result) (length c.args.out.now) (sym c.has_room.ensures ∙ c.if-not-has_room.true) in
     sym (placed_short c.args.at all (rows c.args.out.now) (omega (arith, short, c.count_rows.ensures.0, length-rows c.args.out.now)))
 
 pub loop-i-init : goal.loop-i-init
 loop-i-init c =
     let enough = leb-true (c.args.at + c.count_rows.result) (length c.args.out.now) (sym c.has_room.ensures ∙ c.if-not-has_room.false) in
-    let begin = c.into_iter-i-iterator.ensures.into_iter_gives in
-    let count = ap (λ e. e.count) begin ∙ c.enumerate-i-items.ensures.count in
-    let loops = ap (λ e. loops_in e.iter) begin ∙ ap loops_in c.enumerate-i-items.ensures.source ∙ c.new.ensures in
-    rw (count, loops) (record { is = refl; room = omega (arith, enough, c.count_rows.ensures.0, length-rows c.args.out.now) })
+    rw (c.into_iter-i-iterator.ensures.into_iter_gives, c.enumerate-i-items.ensures.count, c.enumerate-i-items.ensures.source) (record { is = refl; room = omega (arith, enough, c.count_rows.ensures.0, length-rows c.args.out.now) })
 
 pub loop-i-init-derived : goal.loop-i-init-derived
-loop-i-init-derived c =
-    let begin = c.into_iter-i-iterator.ensures.into_iter_gives in
-    let count = ap (λ e. e.count) begin ∙ c.enumerate-i-items.ensures.count in
-    let loops = ap (λ e. loops_in e.iter) begin ∙ ap loops_in c.enumerate-i-items.ensures.source ∙ c.new.ensures in
-    let many = ap length loops ∙ length-pieces c.args.counts.now (rows c.args.t.now) in
-    search rules
+loop-i-init-derived c = let many = loops_counted c.args.loops in search rules
 
 pub overflow_add-here : goal.overflow_add-here
 overflow_add-here c =

@@ -6,8 +6,7 @@ use Rattle.laying.proofs.EachHole.{straddles-first, straddles-none}
 use Rattle.laying.proofs.holes.any_straddles.Goals as goal
 
 pub loop-hole-init : goal.loop-hole-init
-loop-hole-init c =
-    ap (any_straddles c.args.period c.args.lo) (ap loops_in c.into_iter-hole-iterator.ensures.into_iter_gives ∙ c.new-hole-items.ensures)
+loop-hole-init c = ap (λ holes. any_straddles c.args.period c.args.lo (loops_in holes)) c.into_iter-hole-iterator.ensures.into_iter_gives
 
 pub returns-then-straddles : goal.returns-then-straddles
 returns-then-straddles c =

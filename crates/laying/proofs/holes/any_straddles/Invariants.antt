@@ -1,9 +1,7 @@
 use Rattle.std.proofs.Common.{◌≡◌}
-use Rattle.lists.specs.Pieces.{pieces}
-use Rattle.tables.specs.Rows.{rows}
 use Rattle.tables.specs.Loops.{loops_in}
 use Rattle.bands.specs.Rings.{any_straddles}
 use Rattle.laying.proofs.holes.any_straddles.Given as goal
 
 abbrev pub invariant-loop-hole : goal.invariant-loop-hole
-invariant-loop-hole l = any_straddles l.period l.lo (loops_in l.hole-iterator) ≡ any_straddles l.period l.lo (pieces l.counts (rows l.t))
+invariant-loop-hole l = any_straddles l.period l.lo (loops_in l.hole-iterator) ≡ any_straddles l.period l.lo (loops_in l.holes)

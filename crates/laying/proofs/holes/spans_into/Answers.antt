@@ -8,17 +8,16 @@ use Rattle.seam.specs.Gap.{span_of}
 use Rattle.laying.proofs.EachHole.{not_covering, length-spans, span_of_hole, spans_by_hole}
 use Rattle.laying.proofs.holes.spans_into.Goals as goal
 
-pub returns-then-out-counts : goal.returns-then-out-counts
-returns-then-out-counts c = not_covering _ _ _ c.if-out-counts.true
+pub returns-then-out-holes : goal.returns-then-out-holes
+returns-then-out-holes c = not_covering _ _ _ c.if-out-holes.true
 
 pub loop-i-init : goal.loop-i-init
 loop-i-init c =
-    let spans = map span_of (pieces c.args.counts.now (us (rows c.args.t.now))) in
-    let begin = c.into_iter-i-iterator.ensures.into_iter_gives in
-    let count = ap (λ e. e.count) begin ∙ c.enumerate-i-items.ensures.count in
-    let loops = ap (λ e. loops_in e.iter) begin ∙ ap loops_in c.enumerate-i-items.ensures.source ∙ c.new.ensures in
-    let left = ap (map span_of_hole) loops ∙ sym (spans_by_hole c.args.counts.now (rows c.args.t.now)) in
-    rw (count, left) (remaining spans c.args.out.now (omega (arith, c.if-out-counts.false, length-spans c.args.counts.now c.args.t.now c.args.out.now)))
+    let counts = c.args.holes.counts.now in
+    let t = c.args.holes.corners.now in
+    let spans = map span_of (pieces counts (us (rows t))) in
+    let first = remaining spans c.args.out.now (omega (arith, c.if-out-holes.false, length-spans counts t c.args.out.now)) in
+    rw (c.into_iter-i-iterator.ensures.into_iter_gives, c.enumerate-i-items.ensures.count, c.enumerate-i-items.ensures.source, sym (spans_by_hole counts (rows t))) first
 
 pub loop-i-preserved : goal.loop-i-preserved
 loop-i-preserved c =

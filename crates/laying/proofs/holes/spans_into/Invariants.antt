@@ -11,4 +11,4 @@ use Rattle.laying.proofs.holes.spans_into.Given as goal
 
 abbrev pub invariant-loop-i : goal.invariant-loop-i
 invariant-loop-i l =
-    Remaining (placed 0 (map span_of (pieces l.counts (us (rows l.t)))) l.initial.out) l.out l.i-iterator.count (map span_of_hole (loops_in l.i-iterator.iter))
+    Remaining (placed 0 (map span_of (pieces l.holes.counts.now (us (rows l.holes.corners.now)))) l.initial.out) l.out l.i-iterator.count (map span_of_hole (loops_in l.i-iterator.iter))
