@@ -19,7 +19,6 @@ use Rattle.tables.specs.declared.loops.Loops.{Loops}
 use Rattle.tables.specs.declared.corners.Corner.{Corner as Held}
 use Rattle.tables.proofs.PartRows.{rows-placed}
 use Rattle.tables.proofs.Rows.{length-rows, rows_take, rows_drop, rows_append}
-use Rattle.closed_region.proofs.MovedHoles.{flatten_snoc}
 use Rattle.closed_face.specs.First.{part_first}
 
 module _ {A : Type 0} where

@@ -44,7 +44,8 @@ use Rattle.call.proofs.Loops.{loops-wrap}
 use Rattle.call.proofs.Strips.{strip-most}
 use Rattle.holes.specs.Others.{others}
 use Rattle.holes.proofs.Others.{map-others}
-use Rattle.filling.specs.Band.{band_closing, BandIs, BandFace}
+use Rattle.filling.specs.Band.{band_closing, BandIs}
+use Rattle.filling.proofs.BandFace.{BandFace}
 use Rattle.filling.specs.Filled.{HoldsResult, FillsTo, path_taken}
 use Rattle.std.specs.Prelude.{Ok, Err}
 use Rattle.records.specs.declared.refusal.Refusal.TheVariants.{LongStrip}

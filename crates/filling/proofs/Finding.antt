@@ -1,4 +1,4 @@
--- The number of a loop that is found, the sign of a travel, and both rings.
+-- The rings that are found, and the sign of a travel.
 use Prim.Native.Nat.{ℕ}
 use mathlib.Core.Path.{◌≡◌, sym, ap, ◌∙◌}
 use mathlib.Core.Bool.{Bool}
@@ -8,30 +8,19 @@ use mir.Val.{of_z, to_z, SFits}
 use mir.Facts.{to_z-of_z}
 use lib.IntN.{ℤ}
 use lib.Ieee.{Float}
-use lib.ListN.{length, replicate}
-use Rattle.surfaces.specs.declared.patch.Patch.{Patch}
-use Rattle.surfaces.specs.Domains.{u_period}
-use Rattle.lists.specs.Pieces.{pieces}
+use lib.ListN.{length}
 use Rattle.lists.specs.Placed.{placed}
-use Rattle.tables.specs.Rows.{rows}
-use Rattle.tables.specs.declared.corners.Corner.{Corner as Held}
-use Rattle.loop_records.specs.declared.LoopRecord.{LoopRecord}
-use Rattle.loop_records.specs.Record.{no_loop}
 use Rattle.bands.specs.Given.{falls}
 use Rattle.records.specs.Answers.{place_of}
-use Rattle.records.specs.Accepted.{Accepted}
-use Rattle.records.specs.Face.{counts, corners_in}
-use Rattle.records.specs.Limits.{version1}
 use Rattle.records.specs.Refusals.{at, first_where}
 use Rattle.records.specs.Refusals as Sought
 use Rattle.std.specs.Prelude.{Option, Some, None}
 use Rattle.std.specs.Option.{unwrap_or}
-use Rattle.call.specs.Face.{sense_in, wrapping, wraps_in}
-use Rattle.loop_records.specs.Loops.{records_from}
+use Rattle.call.specs.Face.{wrapping, wraps_in}
 use Rattle.call.specs.Later.{wraps_at}
 use Rattle.measuring.specs.LastWhere.{last_where}
 use Rattle.holes.specs.Others.{others}
-use Rattle.filling.specs.Band.{patch_in, BandFace}
+use Rattle.filling.specs.Band.{RingsOf}
 use Rattle.filling.proofs.TwoRings.{some_first, some_last}
 
 -- the areas that are picked are those of the loops
@@ -44,20 +33,12 @@ number_found : (p : Option ℕ) (q : Sought.Place) (n : ℕ) → place_of p ≡ 
 number_found None q n e some is = absurd (some (sym e))
 number_found (Some k) q n e some is = sym e ∙ ap at (sym is)
 
-pub face_of_lem : (s : List ℕ) (corners : List Held) (given : List ℕ) (loops : List LoopRecord) (wraps : List ℤ) (patch : Patch) (sense : Bool) (p q : Option ℕ) (a b : ℕ)
-    → Accepted version1 s → wrapping s ≡ 2 → given ≡ counts s → rows corners ≡ corners_in s → loops ≡ placed 0 (records_from (u_period patch.surface) 0 (pieces given (rows corners))) (replicate 16 no_loop)
-    → wraps ≡ wraps_in s → patch ≡ patch_in s → sense ≡ sense_in s
+pub rings_found : (s : List ℕ) (wraps : List ℤ) (p q : Option ℕ) (a b : ℕ) → wraps ≡ wraps_in s → wrapping s ≡ 2
     → place_of p ≡ last_where (length wraps) (wraps_at wraps) → a ≡ unwrap_or p 0
     → place_of q ≡ first_where (length wraps) (wraps_at wraps) → b ≡ unwrap_or q 0
-    → BandFace s corners given loops patch sense a b
-face_of_lem s corners given loops wraps patch sense p q a b acc two given_is corners_are loops_are wraps_are patch_is sense_is p_is a_is q_is b_is = record {
-  accepted = acc;
+    → RingsOf s a b
+rings_found s wraps p q a b wraps_are two p_is a_is q_is b_is = record {
   two = two;
-  given_is = given_is;
-  corners_are = corners_are;
-  loops_are = loops_are;
-  patch_is = patch_is;
-  sense_is = sense_is;
   first_is = number_found p _ a (p_is ∙ ap (λ (ws : List ℤ). last_where (length ws) (wraps_at ws)) wraps_are) (some_last s two) a_is;
   later_is = number_found q _ b (q_is ∙ ap (λ (ws : List ℤ). first_where (length ws) (wraps_at ws)) wraps_are) (some_first s two) b_is;
 }

@@ -10,5 +10,6 @@ pub mod Others
 pub mod TwoRings
 pub mod Recorded
 pub mod Finding
+pub mod BandFace
 pub mod Taken
 pub mod Banded

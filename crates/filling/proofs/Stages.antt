@@ -10,8 +10,6 @@ use lib.ListN.{length, get_or, take, replicate}
 use Rattle.std.proofs.Common.{Option}
 use Rattle.lists.specs.Pieces.{pieces}
 use Rattle.lists.specs.Placed.{placed}
-use Rattle.numbers.specs.declared.math.Frame.{Frame}
-use Rattle.surfaces.specs.declared.options.Resolved.{Resolved}
 use Rattle.surfaces.specs.declared.patch.Patch.{Patch}
 use Rattle.surfaces.specs.declared.surface.Surface.{Surface}
 use Rattle.filling.specs.Band.{patch_in}
@@ -133,12 +131,6 @@ module _ (s : List ℕ) (a : Accepted version1 s) (head : List Float) (counts : 
     frame = (ap frame_at read.head_is ∙ frame_read s) i;
     options = (ap (λ (h : List Float). options_at h (Record.segments s)) read.head_is ∙ options_read s) i;
   })
-
-  pub recorded_on : (surface : Surface) (frame : Frame) (options : Resolved) (p : Patch) → p ≡ record { surface = surface; frame = frame; options = options }
-      → (loops : List LoopRecord) → loops ≡ placed 0 (records_from (u_period surface) 0 (pieces counts (rows t))) (replicate 16 no_loop)
-      → loops ≡ placed 0 (records_from (u_period p.surface) 0 (pieces counts (rows t))) (replicate 16 no_loop)
-  recorded_on surface frame options p e loops recorded =
-      recorded ∙ ap (λ (q : Patch). placed 0 (records_from (u_period q.surface) 0 (pieces counts (rows t))) (replicate 16 no_loop)) (sym e)
 
   pub sense_in_lem : (sense : ℕ) → sense ≡ Record.sense s → (sense =? 1) ≡ sense_in s
   unfolding sense_in

@@ -40,7 +40,8 @@ use Rattle.loops.specs.Wrap.{net_wrap}
 use Rattle.measuring.proofs.RingsGiven.{first-given, later-given}
 use Rattle.holes.specs.Others.{others}
 use Rattle.holes.proofs.Others.{map-others, others_as_many}
-use Rattle.filling.specs.Band.{BandIs, BandFace}
+use Rattle.filling.specs.Band.{BandIs}
+use Rattle.filling.proofs.BandFace.{BandFace}
 use Rattle.filling.proofs.Others.{others_many, total-length, pieces-front, pieces_long}
 use Rattle.filling.proofs.Recorded.{corners_there, count_there, falls_there}
 use Rattle.filling.proofs.TwoRings.{inside, apart, holes-given, points_parted}

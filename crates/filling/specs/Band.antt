@@ -40,14 +40,8 @@ module _ (S : Setting Vec3) (given : Given Vec3) where
     pub band : length (strip_of S given) ≤ version1.strip → take (length (outer S given)) (rows t) ≡ outer S given
     pub holes_are : hs ≡ holes S given
 
--- What is taken from the face record s, of which two loops wrap: "Rings are taken last wrapping loop first", that of number a before that of number b.
-pub record BandFace (s : List ℕ) (corners : List Held) (given : List ℕ) (loops : List LoopRecord) (patch : Patch) (sense : Bool) (a b : ℕ) : Type 0 where
-  pub accepted : Accepted version1 s
+-- "Rings are taken last wrapping loop first": of the two loops of the face record s that wrap, that of number a before that of number b.
+pub record RingsOf (s : List ℕ) (a b : ℕ) : Type 0 where
   pub two : wrapping s ≡ 2
-  pub given_is : given ≡ counts s
-  pub corners_are : rows corners ≡ corners_in s
-  pub loops_are : loops ≡ placed 0 (records_from (u_period patch.surface) 0 (pieces given (rows corners))) (replicate 16 no_loop)
-  pub patch_is : patch ≡ patch_in s
-  pub sense_is : sense ≡ sense_in s
   pub first_is : last_where (length (wraps_in s)) (wraps_at (wraps_in s)) ≡ at a
   pub later_is : first_where (length (wraps_in s)) (wraps_at (wraps_in s)) ≡ at b

@@ -2,7 +2,7 @@
 // a result exists outside bytes. The steps here are those of `face`.
 #![tactic(auto)]
 
-ghost use Rattle.std.specs.Prelude.{◌≡◌, List, map, ℕ, ◌<◌, ◌+◌, ◌-◌, ◌*◌, ◌≤◌, min, set, replicate, length};
+ghost use Rattle.std.specs.Prelude.{◌≡◌, List, Float, map, ℕ, ◌<◌, ◌+◌, ◌-◌, ◌*◌, ◌≤◌, min, set, replicate, length};
 ghost use Rattle.lists.specs.Pieces.{pieces};
 ghost use Rattle.lists.specs.Placed.{placed};
 ghost use Rattle.tables.specs.Rows.{rows};
@@ -21,7 +21,8 @@ ghost use Rattle.laying.specs.Held.{given_in as held_in};
 ghost use Rattle.holes.specs.Others.{others};
 ghost use Rattle.records.specs.Limits.{version1};
 ghost use Rattle.call.specs.Paths.{signed_area};
-ghost use Rattle.filling.specs.Band.{patch_in, BandIs, BandFace};
+ghost use Rattle.filling.specs.Band.{patch_in, BandIs, RingsOf};
+ghost use Rattle.filling.specs.Stages.{IsRead};
 
 use closed_face::face::closed_face;
 use closed_region::outer::empty_box;
@@ -33,22 +34,23 @@ use holes::rows::pick_holes;
 use laying::place::lay_rings;
 use laying::reseam::reseam;
 use laying::start::take_start;
-use loop_records::LoopRecord;
 use loop_records::ring::ring_of;
 use measuring::refusals::{first_wrapping, last_wrapping};
+use read_face::ReadFace;
 use records::refusal::Refusal;
 use result_loops::ResultLoops;
 use results::Path;
 use seam::gap::Span;
 use strip::closing::{Closed, TooMany};
 use surfaces::patch::Patch;
-use surfaces::surface::Surface;
 use tables::corners::{Corner, ORIGIN};
+use tables::loops::Loops;
 use tables::slices::copy_into;
 use wrapped_region::order::goes_with;
 use wrapped_region::ordered::close_ordered;
 
 pub mod face;
+pub mod read_face;
 pub mod result_loops;
 pub mod ring_refusals;
 
@@ -67,31 +69,29 @@ fn fill_whole(patch: Patch, out: &mut ResultLoops) -> FilledFace
 
 // The closed path: a face of which no loop wraps.
 fn fill_closed(
+    face: ReadFace,
     corners: &mut [Corner],
-    given: &[usize],
-    measured: &mut [f64],
-    surface: Surface,
+    areas: &mut [f64],
     out: &mut ResultLoops,
 ) -> FilledFace
-    ensures { (s : List ℕ) → Accepted version1 s → 0 < loops_of s → wrapping s ≡ 0 → surface ≡ surface_in s
-        → given.now ≡ counts_of s → rows corners.old ≡ corners_in s → measured.old ≡ map signed_area (pieces given.now (rows corners.old))
-        → FillsTo passes s (Ok result) out.new }
+    ensures { IsRead face.entry corners.old areas.old → 0 < loops_of face.entry.bytes.now → wrapping face.entry.bytes.now ≡ 0
+        → FillsTo passes face.entry.bytes.now (Ok result) out.new }
 {
     let mut boxes = [empty_box(); 16];
     closed_face(
         corners,
-        given,
-        measured,
+        face.counts,
+        areas,
         &mut boxes,
-        surface.u_period(),
-        surface.v_period(),
+        face.surface.u_period(),
+        face.surface.v_period(),
         &mut out.corners,
         &mut out.counts,
         &mut out.areas,
     );
     FilledFace {
         path: Path::Closed,
-        loops: given.len(),
+        loops: face.counts.len(),
     }
 }
 
@@ -149,30 +149,31 @@ fn band_between(
 // The band of a face whose rings are its loops of number a and b, into the front of t; the holes as
 // its strip takes them, one behind the other, into the front of `holes`.
 fn band_of(
+    face: ReadFace,
     corners: &[Corner],
-    given: &[usize],
-    loops: &[LoopRecord],
     a: usize,
     b: usize,
-    patch: Patch,
-    sense: bool,
     holes: &mut [Corner],
     t: &mut [Corner; 1536],
 ) -> Result<Closed, TooMany>
-    ensures { (s : List ℕ) → BandFace s corners.now given.now loops.now patch sense a b → version1.points ≤ length (rows holes.old)
-        → BandIs (setting_in s) (given_in s) result t.new (pieces (others a b given.now) (rows holes.new)) }
+    ensures { (areas : List Float) → IsRead face.entry corners.now areas → RingsOf face.entry.bytes.now a b → version1.points ≤ length (rows holes.old)
+        → BandIs (setting_in face.entry.bytes.now) (given_in face.entry.bytes.now) result t.new (pieces (others a b face.entry.counts.now) (rows holes.new)) }
 {
     let mut first = [ORIGIN; 512];
     let mut later = [ORIGIN; 512];
     let mut counts = [0; 16];
-    let one = ring_of(&mut first, corners, loops, a);
-    let other = ring_of(&mut later, corners, loops, b);
+    let one = ring_of(&mut first, corners, face.loops, a);
+    let other = ring_of(&mut later, corners, face.loops, b);
     let m = one.count.min(512);
     let n = other.count.min(512);
-    pick_holes(holes, 0, corners, given, a, b);
-    pick(&mut counts, 0, given, a, b);
-    let k = count_holes(given.len(), a, b).min(16);
-    let period = patch.surface.u_period().unwrap_or(0.0);
+    let all = Loops {
+        corners,
+        counts: face.counts,
+    };
+    pick_holes(holes, 0, all, a, b);
+    pick(&mut counts, 0, face.counts, a, b);
+    let k = count_holes(face.counts.len(), a, b).min(16);
+    let period = face.surface.u_period().unwrap_or(0.0);
     band_between(
         &mut first[..m],
         &mut later[..n],
@@ -180,9 +181,9 @@ fn band_of(
         &counts[..k],
         falls(one.travel),
         falls(other.travel),
-        patch,
+        face.patch(),
         period,
-        sense,
+        face.has_sense(),
         t,
     )
 }
@@ -190,44 +191,27 @@ fn band_of(
 // The wrapped path: a face of which two loops wrap. The result has one loop fewer, the two rings being
 // one of its loops.
 fn fill_band(
+    face: ReadFace,
     corners: &[Corner],
-    given: &[usize],
-    loops: &[LoopRecord],
-    wraps: &[i32],
-    measured: &[f64],
-    patch: Patch,
-    sense: bool,
+    areas: &[f64],
     out: &mut ResultLoops,
 ) -> Result<FilledFace, Refusal>
-    ensures { (s : List ℕ) → Accepted version1 s → wrapping s ≡ 2 → given.now ≡ counts_of s → rows corners.now ≡ corners_in s
-        → loops.now ≡ placed 0 (records_from (u_period patch.surface) 0 (pieces given.now (rows corners.now))) (replicate 16 no_loop)
-        → wraps.now ≡ wraps_in s → measured.now ≡ map signed_area (pieces given.now (rows corners.now)) → patch ≡ patch_in s → sense ≡ sense_in s
-        → FillsTo (verdict (strip_conditions version1) s) s result out.new }
+    ensures { IsRead face.entry corners.now areas.now → wrapping face.entry.bytes.now ≡ 2
+        → FillsTo (verdict (strip_conditions version1) face.entry.bytes.now) face.entry.bytes.now result out.new }
 {
     let mut holes = [ORIGIN; 512];
-    let a = last_wrapping(wraps).unwrap_or(0);
-    let b = first_wrapping(wraps).unwrap_or(0);
-    let closing = band_of(
-        corners,
-        given,
-        loops,
-        a,
-        b,
-        patch,
-        sense,
-        &mut holes,
-        &mut out.corners,
-    );
-    match closing {
+    let a = last_wrapping(face.wraps).unwrap_or(0);
+    let b = first_wrapping(face.wraps).unwrap_or(0);
+    match band_of(face, corners, a, b, &mut holes, &mut out.corners) {
         Ok(closed) => {
             copy_into(&mut out.corners, closed.count, &holes);
             out.counts[0] = closed.count;
-            pick(&mut out.counts, 1, given, a, b);
+            pick(&mut out.counts, 1, face.counts, a, b);
             out.areas[0] = closed.area;
-            pick(&mut out.areas, 1, measured, a, b);
+            pick(&mut out.areas, 1, areas, a, b);
             Ok(FilledFace {
                 path: Path::Wrapped,
-                loops: given.len().saturating_sub(1),
+                loops: face.counts.len().saturating_sub(1),
             })
         }
         Err(long) => Err(Refusal::LongStrip(long.corners)),

@@ -1,20 +1,20 @@
 // The refusals 8 to 11, in their order: what they ask is how many loops wrap, and whether those are
-// closed.
+// closed. The kind is the record's byte, and the answer stands for every byte: an enum would ask more
+// of callers.
 ghost use Rattle.std.specs.Prelude.{◌≡◌};
-ghost use Rattle.lists.specs.Pieces.{pieces};
-ghost use Rattle.tables.specs.Rows.{rows};
+ghost use Rattle.tables.specs.Loops.{loops_in};
 ghost use Rattle.records.specs.Answers.{verdict_of};
 ghost use Rattle.filling.specs.Stages.{rings_verdict};
 
 use measuring::refusals::{many_rings, one_ring, open_ring, open_surface};
 use records::refusal::Refusal;
-use tables::corners::Corner;
+use tables::loops::Loops;
 
 #[tactic(auto, using(crate::proofs::Refused::as_many_pieces), unfolding(crate::specs::Stages::rings_verdict))]
-pub fn check_rings(kind: u8, t: &[Corner], counts: &[usize], wraps: &[i32]) -> Result<(), Refusal>
-    ensures { verdict_of result ≡ rings_verdict kind (pieces counts.now (rows t.now)) wraps.now }
+pub fn check_rings(kind: u8, loops: Loops, wraps: &[i32]) -> Result<(), Refusal>
+    ensures { verdict_of result ≡ rings_verdict kind (loops_in loops.entry) wraps.now }
 {
-    if let Some(k) = open_ring(t, counts, wraps) {
+    if let Some(k) = open_ring(loops, wraps) {
         return Err(Refusal::OpenRing(k));
     }
     if let Some(k) = one_ring(wraps) {
@@ -23,7 +23,7 @@ pub fn check_rings(kind: u8, t: &[Corner], counts: &[usize], wraps: &[i32]) -> R
     if let Some(n) = many_rings(wraps) {
         return Err(Refusal::ManyRings(n));
     }
-    if let Some(p) = open_surface(kind, counts.len()) {
+    if let Some(p) = open_surface(kind, loops.counts.len()) {
         return Err(Refusal::OpenSurface(p));
     }
     Ok(())
