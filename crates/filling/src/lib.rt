@@ -50,7 +50,7 @@ use wrapped_region::order::goes_with;
 use wrapped_region::ordered::close_ordered;
 
 pub mod face;
-pub mod read_face;
+mod read_face;
 pub mod result_loops;
 pub mod ring_refusals;
 

@@ -12,18 +12,18 @@ use surfaces::surface::Surface;
 
 // The corners and the areas of its loops stand beside it: the closed path changes them where they are.
 #[derive(Clone, Copy)]
-pub struct ReadFace<'a> {
-    pub bytes: &'a [u8],
-    pub head: &'a [f64],
-    pub counts: &'a [usize],
-    pub loops: &'a [LoopRecord],
-    pub wraps: &'a [i32],
-    pub surface: Surface,
+pub(crate) struct ReadFace<'a> {
+    pub(crate) bytes: &'a [u8],
+    pub(crate) head: &'a [f64],
+    pub(crate) counts: &'a [usize],
+    pub(crate) loops: &'a [LoopRecord],
+    pub(crate) wraps: &'a [i32],
+    pub(crate) surface: Surface,
 }
 
 impl<'a> ReadFace<'a> {
     // The surface with its frame, which takes roots, and its tolerances.
-    pub fn patch(self) -> Patch
+    pub(crate) fn patch(self) -> Patch
         ensures { result ≡ record { surface = self.entry.surface; frame = frame_at self.entry.head.now; options = options_at self.entry.head.now (segments self.entry.bytes.now) } }
     {
         Patch {
@@ -34,7 +34,7 @@ impl<'a> ReadFace<'a> {
     }
 
     // Whether the face's sense is its surface's.
-    pub fn has_sense(self) -> bool
+    pub(crate) fn has_sense(self) -> bool
         ensures { result ≡ (sense_of self.entry.bytes.now =? 1) }
     {
         sense(self.bytes) == 1
