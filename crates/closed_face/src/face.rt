@@ -45,6 +45,8 @@ pub fn loop_first(loops: Loops, k: usize, out: &mut [Corner])
 // The outer loop, then the holes in their order, into the front of out, out_counts and out_areas.
 // `areas` are those of the loops as they are given. The holes are moved in t, the areas of those that
 // moved are worked out anew, and the boxes are written too.
+// The result is three slices and no struct: `ResultLoops` of filling has the lengths of version 1, which
+// would ask more of callers, and a struct of slices would be made for this one call and taken apart.
 pub fn closed_face(
     t: &mut [Corner],
     counts: &[usize],

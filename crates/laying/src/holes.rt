@@ -24,7 +24,9 @@ fn onto(t: &mut [Corner], lo: f64, period: f64)
     slide_unless_zero(t, step, Move::Down(step));
 }
 
-// Every hole onto the strip that begins at lo.
+// Every hole onto the strip that begins at lo. The place is kept by hand: with what is left of the table
+// in a variable (`split_at_mut`) the proof did not close, as a loop keeps nothing of what a borrow that
+// is handed on gives back.
 pub fn onto_all(t: &mut [Corner], counts: &[usize], lo: f64, period: f64)
     ensures { rows t.new ≡ map_pieces (onto period lo) counts.now (rows t.old) }
 {
