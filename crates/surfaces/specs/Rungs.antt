@@ -8,6 +8,7 @@ use Rattle.std.specs.Float.Ieee.{le, ne}
 use Rattle.numbers.specs.Constants.{10^-9}
 use Rattle.numbers.specs.Rounded.{◌⊕◌, ◌⊖◌, ◌⊗◌, ◌⊘◌, count}
 use Rattle.numbers.specs.Order.{abs_of}
+use Rattle.surfaces.specs.declared.knots.KeptDivisions.{KeptDivisions}
 
 -- the division i of n: lo + (hi - lo) * i / max(n, 1), each operation rounded once
 unfoldable pub division : Float → Float → ℕ → ℕ → Float
@@ -43,6 +44,10 @@ kept slack (x ∷ xs) = x ∷ kept_after slack x xs
 
 unfoldable pub kept_divisions : Float → Float → ℕ → List Float
 kept_divisions lo hi n = kept (slack_of lo hi) (divisions lo hi n)
+
+-- what the iterator has still to give of them
+unfoldable pub kept_left : KeptDivisions → List Float
+kept_left s = kept_after s.slack s.last (divisions_from s.lo s.hi s.n (suc s.passed) (s.n - s.passed))
 
 -- 02, N2: "the last rung kept is set to it, or it is added after a lone lower bound"
 unfoldable pub ended_on : Float → List Float → List Float

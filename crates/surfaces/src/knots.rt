@@ -1,8 +1,9 @@
 // The rungs of `merge_even` of `knots.rs`, for surfaces that have no breaks. There is no list of
 // them: they are counted as they come, and those asked for are written to a lent slice.
 ghost use Rattle.std.specs.Prelude.{◌≡◌, ◌+◌, ◌-◌, length, drop};
+ghost use Rattle.std.specs.Iterator.{YieldsFirst, item_count};
 ghost use Rattle.std.proofs.lemmas.List.Edits.{sets};
-ghost use Rattle.surfaces.specs.Rungs.{division, slack_of, near, kept_divisions, rungs, EndsOn, EndWritten, inner, placed};
+ghost use Rattle.surfaces.specs.Rungs.{division, slack_of, near, kept_divisions, kept_left, rungs, EndsOn, EndWritten, inner, placed};
 
 // The division i of n even ones from lo to hi.
 #[tactic(auto, unfolding(crate::specs::Rungs::division))]
@@ -28,21 +29,65 @@ fn near(slack: f64, x: f64, last: f64) -> bool
     (x - last).abs() <= slack
 }
 
+// The divisions that are kept behind the first, one after the other: each that is not too near the
+// one kept before it. `last` is that one, and `passed` the number of the division that was come to.
+#[derive(Clone, Copy)]
+pub struct KeptDivisions {
+    lo: f64,
+    hi: f64,
+    n: usize,
+    slack: f64,
+    last: f64,
+    passed: usize,
+}
+
+impl KeptDivisions {
+    // Of the n even divisions from lo to hi.
+    pub fn new(lo: f64, hi: f64, n: usize) -> KeptDivisions
+        ensures { kept_left result ≡ drop 1 (kept_divisions lo hi n) }
+    {
+        KeptDivisions {
+            lo,
+            hi,
+            n,
+            slack: slack(lo, hi),
+            last: division(lo, hi, n, 0),
+            passed: 0,
+        }
+    }
+}
+
+impl Iterator for KeptDivisions {
+    type Item = f64;
+
+    ghost next_gives = { YieldsFirst kept_left };
+
+    ghost remaining = { item_count kept_left };
+
+    fn next(&mut self) -> Option<f64> {
+        let s = *self;
+        for i in s.passed..s.n {
+            let x = division(s.lo, s.hi, s.n, i + 1);
+            if !near(s.slack, x, s.last) {
+                *self = KeptDivisions {
+                    last: x,
+                    passed: i + 1,
+                    ..s
+                };
+                return Some(x);
+            }
+        }
+        *self = KeptDivisions { passed: s.n, ..s };
+        None
+    }
+}
+
 // How many rungs there are beside the first: at least one where the bounds differ.
 pub fn merge_even_steps(lo: f64, hi: f64, n: usize) -> usize
     ensures value { result ≡ length (rungs lo hi n) - 1 }
     ensures ends_on { EndsOn lo hi result (rungs lo hi n) }
 {
-    let e = slack(lo, hi);
-    let mut last = division(lo, hi, n, 0);
-    let mut k: usize = 0;
-    for i in 0..n {
-        let x = division(lo, hi, n, i + 1);
-        if !near(e, x, last) {
-            k += 1;
-            last = x;
-        }
-    }
+    let k = KeptDivisions::new(lo, hi, n).count();
     if lo != hi { k.max(1) } else { k }
 }
 
@@ -65,17 +110,11 @@ pub fn merge_even(lo: f64, hi: f64, n: usize, from: usize, out: &mut [f64])
     ensures out_after { out.new ≡ sets out.old 0 (drop from (rungs lo hi n)) }
     ensures end_written { EndWritten lo hi n from out.new }
 {
-    let e = slack(lo, hi);
-    let mut last = division(lo, hi, n, 0);
-    put(out, from, 0, last);
+    put(out, from, 0, division(lo, hi, n, 0));
     let mut k: usize = 0;
-    for i in 0..n {
-        let x = division(lo, hi, n, i + 1);
-        if !near(e, x, last) {
-            k += 1;
-            put(out, from, k, x);
-            last = x;
-        }
+    for x in KeptDivisions::new(lo, hi, n) {
+        k += 1;
+        put(out, from, k, x);
     }
     if lo != hi {
         put(out, from, k.max(1), hi);

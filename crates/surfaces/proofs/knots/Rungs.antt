@@ -113,7 +113,7 @@ module _ (lo hi : Float) (n : ℕ) where
       let e = length_ended hi (division lo hi n 0) after in
       rungs_either (λ (l : List Float). length l ≤ max n 1 + 1) (omega arith) (omega arith)
 
-  kept-most : length (kept_divisions lo hi n) ≤ n + 1
+  pub kept-most : length (kept_divisions lo hi n) ≤ n + 1
   kept-most =
       let a = kept-few kept in
       let b = from-length 1 n in

@@ -1,4 +1,4 @@
--- The two loops over the divisions, on plain values: one counts the rungs, one writes them.
+-- The divisions that are kept, one after the other, and the rungs counted and written by them, on plain values.
 use Rattle.std.proofs.Common.{◌≡◌, ℕ, suc, ◌+◌, ◌-◌, ◌<◌, ◌≤◌, max, Bool, true, false, cond, leb, List, [], ◌∷◌, ◌++◌, length, drop, set, sym, refl, ap, ◌∙◌, add-one, arith, length-set, set-set, le-leb, leb-false, leb-true}
 use mathlib.Core.List.{drop_last}
 use lib.Seq.{sets, drop-nil}
@@ -6,7 +6,7 @@ use lib.Ieee.{Float, ne}
 use Rattle.surfaces.specs.Rungs.{division, divisions_from, slack_of, near, kept_after, kept_divisions, ended_on, rungs, EndsOn, EndWritten, placed}
 use Rattle.surfaces.proofs.knots.Ended.{ended_is, ended_length}
 use Rattle.surfaces.proofs.knots.Kept.{kept_step}
-use Rattle.surfaces.proofs.knots.Rungs.{rungs-kept, rungs-set, rungs-end, end-written}
+use Rattle.surfaces.proofs.knots.Rungs.{kept_are, rungs-kept, rungs-set, rungs-end, end-written, kept-most}
 
 -- ---- elements stored as those of number k, k + 1, .. of a list whose number `from` stands at 0
 unfoldable pub writes : ℕ → ℕ → List Float → List Float → List Float
@@ -87,9 +87,8 @@ all_ended from x xs y os =
     ∙ ap (λ (j : ℕ). placed from j y (writes from 1 xs (placed from 0 x os))) z
     ∙ ap (placed from (max (length xs) 1) y) (writes_all from x xs os)
 
--- ---- the walk: i divisions after the first are done, k of them kept, `last` last
+-- ---- what is kept behind the division i, where `last` was kept last
 module _ (lo hi : Float) (n : ℕ) (e : Float) where
-  -- what is still to be kept
   abbrev pub left : Float → ℕ → List Float
   left last i = kept_after e last (divisions_from lo hi n (suc i) (n - i))
 
@@ -97,121 +96,96 @@ module _ (lo hi : Float) (n : ℕ) (e : Float) where
   unfolding divisions_from
   next i h = let q : n - i ≡ suc (n - (i + 1)) = omega arith in rw (q, add-one)
 
-  left_step : (last : Float) (i : ℕ) {x : Float} {r : Bool} (t : Bool) → i < n → x ≡ division lo hi n (i + 1) → r ≡ near e x last → r ≡ t → left last i ≡ cond t (left last (i + 1)) (x ∷ left x (i + 1))
+  pub left_step : (last : Float) (i : ℕ) {x : Float} {r : Bool} (t : Bool) → i < n → x ≡ division lo hi n (i + 1) → r ≡ near e x last → r ≡ t → left last i ≡ cond t (left last (i + 1)) (x ∷ left x (i + 1))
   left_step last i {x} t h p q s =
       let rest = divisions_from lo hi n (suc (i + 1)) (n - (i + 1)) in
       ap (kept_after e last) (next i h ∙ ap (λ (y : Float). y ∷ rest) (sym p)) ∙ kept_step e last x rest
       ∙ ap (λ (b : Bool). cond b (left last (i + 1)) (x ∷ left x (i + 1))) (sym q ∙ s)
 
-  left_none : (last : Float) (i : ℕ) → n ≤ i → left last i ≡ []
+  pub left_none : (last : Float) (i : ℕ) → n ≤ i → left last i ≡ []
   unfolding kept_after divisions_from
   left_none last i h = let z : n - i ≡ 0 = omega arith in rw z
 
-  pub record Walk (last : Float) (k i : ℕ) : Type 0 where
-    pub far : i ≤ n
-    pub few : k ≤ i
-    pub counted : suc k + length (left last i) ≡ length (kept_divisions lo hi n)
+module _ (lo hi : Float) (n : ℕ) where
+  -- what is kept behind the first
+  abbrev others : List Float
+  others = drop 1 (kept_divisions lo hi n)
 
-  kept-start : e ≡ slack_of lo hi → {last : Float} → last ≡ division lo hi n 0 → kept_divisions lo hi n ≡ last ∷ left last 0
+  pub left-start : {e last : Float} → e ≡ slack_of lo hi → last ≡ division lo hi n 0 → left lo hi n e last 0 ≡ others
   unfolding kept_divisions divisions_from
-  kept-start p q = let z : n - 0 ≡ n = omega arith in rw (z, q, p)
+  left-start p q = let z : n - 0 ≡ n = omega arith in rw (z, q, p)
 
-  module _ {last : Float} (slack : e ≡ slack_of lo hi) (first : last ≡ division lo hi n 0) where
-    pub walk_start : Walk last 0 0
-    walk_start = let q : length (kept_divisions lo hi n) ≡ suc (length (left last 0)) = ap length (kept-start slack first) in record { far = omega arith; few = omega arith; counted = omega arith }
+  first_of : kept_divisions lo hi n ≡ division lo hi n 0 ∷ others
+  first_of = kept_are lo hi n ∙ ap (λ (l : List Float). division lo hi n 0 ∷ drop 1 l) (sym (kept_are lo hi n))
 
-  module _ {last : Float} {k i : ℕ} (w : Walk last k i) where
-    kept_all : n ≤ i → suc k ≡ length (kept_divisions lo hi n)
-    kept_all h = let e : length (left last i) ≡ 0 = ap length (left_none last i h) in let q = w.counted in omega arith
+  pub others-few : length others ≤ n
+  others-few = let m = kept-most lo hi n in let f = ap length first_of in omega arith
 
-    -- where the ends are one as numbers, and where they differ
-    pub walk_end : n ≤ i → ne lo hi ≡ false → (k ≡ length (rungs lo hi n) - 1) × EndsOn lo hi k (rungs lo hi n)
-    walk_end h t =
-        let q = kept_all h in
+  -- ---- how many rungs, where k are kept behind the first: where the ends are one as numbers, and where they differ
+  module _ {k : ℕ} (all : k ≡ length others) where
+    kept_all : suc k ≡ length (kept_divisions lo hi n)
+    kept_all = let e = ap length first_of in omega arith
+
+    pub counted_end : ne lo hi ≡ false → (k ≡ length (rungs lo hi n) - 1) × EndsOn lo hi k (rungs lo hi n)
+    counted_end t =
+        let q = kept_all in
         let e = ap length (rungs-kept lo hi n t) in
         let count : k ≡ length (rungs lo hi n) - 1 = omega arith in
         (count, rungs-end lo hi n k count)
 
-    pub walk_ended : n ≤ i → ne lo hi ≡ true → {r : ℕ} → r ≡ max k 1 → (r ≡ length (rungs lo hi n) - 1) × EndsOn lo hi r (rungs lo hi n)
-    walk_ended h t {r} s =
-        let q = kept_all h in
+    pub counted_ended : ne lo hi ≡ true → {r : ℕ} → r ≡ max k 1 → (r ≡ length (rungs lo hi n) - 1) × EndsOn lo hi r (rungs lo hi n)
+    counted_ended t {r} s =
+        let q = kept_all in
         let e = ap length (rungs-set lo hi n t) ∙ ended_length hi (kept_divisions lo hi n) (omega arith) in
         let count : r ≡ length (rungs lo hi n) - 1 = omega arith in
         (count, rungs-end lo hi n r count)
 
-    module _ {x : Float} {r : Bool} (more : i < n) (is : x ≡ division lo hi n (i + 1)) (test : r ≡ near e x last) where
-      pub walk_near : r ≡ true → Walk last k (i + 1)
-      walk_near t =
-          let e : length (left last i) ≡ length (left last (i + 1)) = ap length (left_step last i true more is test t) in
-          let q = w.counted in
-          let f = w.few in
-          record { far = omega arith; few = omega arith; counted = omega arith }
-
-      pub walk_far : r ≡ false → Walk x (k + 1) (i + 1)
-      walk_far t =
-          let e : length (left last i) ≡ suc (length (left x (i + 1))) = ap length (left_step last i false more is test t) in
-          let q = w.counted in
-          let f = w.few in
-          record { far = omega arith; few = omega arith; counted = omega arith }
-
-  -- ---- the same where each rung is written when it is found
+  -- ---- each rung written when it is found: k of those behind the first are, `rest` are not
   module _ (from : ℕ) (o₀ : List Float) where
-    pub record Writing (o : List Float) (last : Float) (k i : ℕ) : Type 0 where
-      pub walked : Walk last k i
-      pub long : length o ≡ length o₀
-      pub rest : writes from (suc k) (left last i) o ≡ writes from 1 (drop 1 (kept_divisions lo hi n)) o₀
+    pub record Writing (o : List Float) (k : ℕ) (rest : List Float) : Type 0 where
+      pub counted : k + length rest ≡ length others
+      pub is : writes from (suc k) rest o ≡ writes from 1 others o₀
 
-    pub writing_start : {last : Float} → e ≡ slack_of lo hi → last ≡ division lo hi n 0 → Writing o₀ last 0 0
-    writing_start slack first = record { walked = walk_start slack first; long = refl; rest = ap (λ (l : List Float). writes from 1 (drop 1 l) o₀) (sym (kept-start slack first)) }
+    pub writing_start : {rest : List Float} → rest ≡ others → Writing o₀ 0 rest
+    writing_start e = record { counted = let l = ap length e in omega arith; is = ap (λ (l : List Float). writes from 1 l o₀) e }
 
-    module _ {o : List Float} {last : Float} {k i : ℕ} (w : Writing o last k i) where
-      written : n ≤ i → {first : Float} (os : List Float) → e ≡ slack_of lo hi → first ≡ division lo hi n 0 → o₀ ≡ placed from 0 first os
-          → o ≡ sets os 0 (drop from (kept_divisions lo hi n))
-      unfolding writes
-      written h {first} os slack is put =
-          let start = kept-start slack is in
-          sym (ap (λ (l : List Float). writes from (suc k) l o) (left_none last i h)) ∙ w.rest
-          ∙ ap (writes from 1 (drop 1 (kept_divisions lo hi n))) put
-          ∙ ap (λ (l : List Float). writes from 1 (drop 1 l) (placed from 0 first os)) start
-          ∙ writes_all from first (left first 0) os
-          ∙ ap (λ (l : List Float). sets os 0 (drop from l)) (sym start)
+    module _ {o rest : List Float} {k : ℕ} (w : Writing o k rest) where
+      module _ {x : Float} {behind : List Float} (e : rest ≡ x ∷ behind) where
+        pub writing_few : k < n
+        writing_few = let l = ap length e in let q = w.counted in let m = others-few in omega arith
 
-      module _ (h : n ≤ i) {first : Float} (os : List Float) (slack : e ≡ slack_of lo hi) (is : first ≡ division lo hi n 0) (put : o₀ ≡ placed from 0 first os) where
+        pub writing_turn : {o' : List Float} → o' ≡ placed from (k + 1) x o → Writing o' (k + 1) behind
+        unfolding writes
+        writing_turn put =
+            record {
+              counted = let l = ap length e in let q = w.counted in omega arith;
+              is =
+                  ap (writes from (suc (k + 1)) behind) put
+                  ∙ ap (λ (j : ℕ). writes from (suc j) behind (placed from j x o)) (add-one k)
+                  ∙ ap (λ (l : List Float). writes from (suc k) l o) (sym e)
+                  ∙ w.is;
+            }
+
+      module _ (none : rest ≡ []) {first : Float} (os : List Float) (first_is : first ≡ division lo hi n 0) (put : o₀ ≡ placed from 0 first os) where
+        written : o ≡ sets os 0 (drop from (kept_divisions lo hi n))
+        unfolding writes
+        written =
+            sym (ap (λ (l : List Float). writes from (suc k) l o) none) ∙ w.is
+            ∙ ap (writes from 1 others) (put ∙ ap (λ (x : Float). placed from 0 x os) first_is)
+            ∙ writes_all from (division lo hi n 0) others os
+            ∙ ap (λ (l : List Float). sets os 0 (drop from l)) (sym first_of)
+
         pub writing_end : ne lo hi ≡ false → (o ≡ sets os 0 (drop from (rungs lo hi n))) × EndWritten lo hi n from o
         writing_end t =
-            let all = written h os slack is put ∙ ap (λ (l : List Float). sets os 0 (drop from l)) (sym (rungs-kept lo hi n t)) in
+            let all = written ∙ ap (λ (l : List Float). sets os 0 (drop from l)) (sym (rungs-kept lo hi n t)) in
             (all, end-written lo hi n from os o all)
 
         pub writing_ended : ne lo hi ≡ true → {m : ℕ} → m ≡ max k 1 → {o' : List Float} → o' ≡ placed from m hi o
             → (o' ≡ sets os 0 (drop from (rungs lo hi n))) × EndWritten lo hi n from o'
         writing_ended t {m} top {o'} end =
-            let start = kept-start slack is in
-            let count : m ≡ max (length (left first 0)) 1 = (let q = kept_all w.walked h in let l = ap length start in omega arith) in
+            let count : m ≡ max (length others) 1 = (let q = w.counted in let l = ap length none in omega arith) in
             let all : o' ≡ sets os 0 (drop from (rungs lo hi n)) =
-            end ∙ ap (λ (j : ℕ). placed from j hi o) count
-            ∙ ap (placed from (max (length (left first 0)) 1) hi) (written h os slack is put ∙ ap (λ (l : List Float). sets os 0 (drop from l)) start)
-            ∙ sym (all_ended from first (left first 0) hi os) ∙ ap (λ (l : List Float). sets os 0 (drop from (ended_on hi l))) (sym start)
+            end ∙ (λ i. placed from (count i) hi (written i)) ∙ ap (λ (l : List Float). placed from (max (length others) 1) hi (sets os 0 (drop from l))) first_of
+            ∙ sym (all_ended from (division lo hi n 0) others hi os) ∙ ap (λ (l : List Float). sets os 0 (drop from (ended_on hi l))) (sym first_of)
             ∙ ap (λ (l : List Float). sets os 0 (drop from l)) (sym (rungs-set lo hi n t)) in
             (all, end-written lo hi n from os o' all)
-
-      module _ {x : Float} {r : Bool} (more : i < n) (is : x ≡ division lo hi n (i + 1)) (test : r ≡ near e x last) where
-        pub writing_near : r ≡ true → Writing o last k (i + 1)
-        writing_near t =
-            record {
-              walked = walk_near w.walked more is test t;
-              long = w.long;
-              rest = ap (λ (l : List Float). writes from (suc k) l o) (sym (left_step last i true more is test t)) ∙ w.rest;
-            }
-
-        pub writing_far : {o' : List Float} → r ≡ false → o' ≡ placed from (k + 1) x o → Writing o' x (k + 1) (i + 1)
-        unfolding writes
-        writing_far {o'} t put =
-            record {
-              walked = walk_far w.walked more is test t;
-              long = ap length put ∙ place-length from (k + 1) x o ∙ w.long;
-              rest =
-                  ap (λ (l : List Float). writes from (suc (k + 1)) (left x (i + 1)) l) put
-                  ∙ ap (λ (j : ℕ). writes from (suc j) (left x (i + 1)) (placed from j x o)) (add-one k)
-                  ∙ ap (λ (l : List Float). writes from (suc k) l o) (sym (left_step last i false more is test t))
-                  ∙ w.rest;
-            }

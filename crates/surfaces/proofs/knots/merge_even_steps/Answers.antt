@@ -1,20 +1,23 @@
+use Rattle.std.proofs.Common.{length, inl, arith, ap}
+use Rattle.std.proofs.lemmas.Iterator.Consumers.{YieldsList-from_first, count_from_yields_List}
+use Rattle.surfaces.specs.Rungs.{kept_left}
 use Rattle.surfaces.proofs.knots.Walk as walk
 use Rattle.surfaces.proofs.knots.merge_even_steps.Goals as goal
-use Rattle.surfaces.proofs.knots.merge_even_steps.Goals.{then-not-near, else-not-near}
 
-pub loop-i-init : goal.loop-i-init
-loop-i-init c = walk.walk_start _ _ _ _ c.slack-e.ensures c.division-last.ensures
-
-pub loop-i-preserved : goal.loop-i-preserved
-loop-i-preserved c = elim c.if-not-near.branch [
-  | then-not-near w ↦ rw (w.last-is, w.k-is) (walk.walk_far _ _ _ _ c.loop-i.invariant c.loop-i-test.true c.division-x.ensures c.near.ensures w.if-not-near.true)
-  | else-not-near w ↦ rw (w.last-is, w.k-is) (walk.walk_near _ _ _ _ c.loop-i.invariant c.loop-i-test.true c.division-x.ensures c.near.ensures w.if-not-near.false)
-]
+pub count-k-requires-clause-fits : goal.count-k-requires-clause-fits
+count-k-requires-clause-fits c =
+    let few = walk.others-few c.args.lo c.args.hi c.args.n in
+    let long = ap length c.new.ensures in
+    inl (omega arith)
 
 pub returns-then-lo-hi : goal.returns-then-lo-hi
 returns-then-lo-hi c =
-    let r = walk.walk_ended _ _ _ _ c.loop-i.invariant c.loop-i-test.false c.if-lo-hi.true c.max.ensures in
+    let all = count_from_yields_List _ _ c.count-k.ensures.ran (YieldsList-from_first (λ x. x) kept_left _ c.new.ensures) in
+    let r = walk.counted_ended _ _ _ all c.if-lo-hi.true c.max.ensures in
     record { value = r.0; ends_on = r.1 }
 
 pub returns-else-lo-hi : goal.returns-else-lo-hi
-returns-else-lo-hi c = let r = walk.walk_end _ _ _ _ c.loop-i.invariant c.loop-i-test.false c.if-lo-hi.false in record { value = r.0; ends_on = r.1 }
+returns-else-lo-hi c =
+    let all = count_from_yields_List _ _ c.count-k.ensures.ran (YieldsList-from_first (λ x. x) kept_left _ c.new.ensures) in
+    let r = walk.counted_end _ _ _ all c.if-lo-hi.false in
+    record { value = r.0; ends_on = r.1 }
