@@ -8,7 +8,7 @@ ghost use Rattle.full_domain.specs.Boundary.{is_whole, clamped, centre, wrap_of,
 use numbers::math::{Interval, Vec2, Vec3};
 use surfaces::knots::{merge_even, merge_even_steps};
 use surfaces::patch::Patch;
-use surfaces::steps::Axis;
+use surfaces::steps::{Axis, direction_steps};
 use surfaces::surface::Surface;
 
 pub fn is_whole(surface: Surface) -> bool
@@ -71,7 +71,14 @@ fn steps(patch: Patch, axis: Axis) -> usize
 {
     let along = range_of(patch.surface, axis);
     let across = range_of(patch.surface, other_than(axis));
-    clamped(patch.direction_steps(axis, along.lo, along.hi, centre(across)))
+    clamped(direction_steps(
+        patch.surface,
+        axis,
+        along.lo,
+        along.hi,
+        centre(across),
+        patch.options,
+    ))
 }
 
 // How many corners a side has, less its last one, which begins the next side.

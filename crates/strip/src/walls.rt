@@ -10,6 +10,7 @@ use numbers::math::Vec2;
 use numbers::order::{max, min};
 use surfaces::knots::{inner_count, inner_into};
 use surfaces::patch::Patch;
+use surfaces::steps::v_steps;
 use tables::corners::Corner;
 
 // How many corners a wall has between the two rings. 02, N2 changes neither them nor their heights.
@@ -19,7 +20,7 @@ pub fn wall_count(patch: Patch, lower: f64, upper: f64) -> usize
 {
     let lo = min(lower, upper);
     let hi = max(lower, upper);
-    inner_count(lo, hi, patch.v_steps(lo, hi))
+    inner_count(lo, hi, v_steps(patch.surface, lo, hi, patch.options))
 }
 
 // The inner rungs from the lesser to the greater v, as many as there is room for.
@@ -28,7 +29,7 @@ fn ladder_into(dst: &mut [f64], patch: Patch, a: f64, b: f64)
 {
     let lo = min(a, b);
     let hi = max(a, b);
-    inner_into(lo, hi, patch.v_steps(lo, hi), dst);
+    inner_into(lo, hi, v_steps(patch.surface, lo, hi, patch.options), dst);
 }
 
 // The heights of a wall, from the lower ring's first v to the upper's. Where they do not fit, nothing

@@ -7,6 +7,8 @@ use super::surface::Surface;
 use numbers::order::max;
 use numbers::trig::cos;
 
+// A direction of a surface. An enum, as there are two and no more, which definitions name: it is
+// matched, not called.
 #[derive(Clone, Copy)]
 pub enum Axis {
     U,
