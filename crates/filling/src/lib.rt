@@ -126,24 +126,13 @@ fn band_between(
         high: 0.0,
     }; 16];
     let mut trial = [0.0; 512];
-    let mut heights = [0.0; 512];
     let mut wall = [ORIGIN; 512];
     lay_rings(first, later, first_falls, later_falls, period);
     reseam(first, later, holes, counts, &mut spans, period);
     take_start(first, later, &mut trial, period);
     let with1 = goes_with(sense, first_falls);
     let with2 = goes_with(sense, later_falls);
-    close_ordered(
-        first,
-        later,
-        with1,
-        with2,
-        patch,
-        period,
-        &mut heights,
-        &mut wall,
-        t,
-    )
+    close_ordered(first, later, with1, with2, patch, period, &mut wall, t)
 }
 
 // The band of a face whose rings are its loops of number a and b, into the front of t; the holes as

@@ -1,5 +1,5 @@
 -- `close_strip` of face.rs: two rings become one closed loop of corners.
-use Rattle.std.specs.Prelude.{ℕ, ◌*◌, min, Bool, cond, List, leb, Float, length, Result, Ok, Err}
+use Rattle.std.specs.Prelude.{ℕ, ◌*◌, min, Bool, cond, List, leb, length, Result, Ok, Err}
 use Rattle.numbers.specs.declared.math.Vec3.{Vec3}
 use Rattle.lists.specs.Placed.{placed}
 use Rattle.loops.specs.Area.{area_of}
@@ -11,9 +11,9 @@ use Rattle.strip.specs.Count.{capped}
 use Rattle.strip.specs.declared.closing.Closed.{Closed}
 use Rattle.strip.specs.declared.closing.TooMany.{TooMany}
 
--- how many corners the wall's heights, its table and the result's have room for: a strip has its wall twice
-abbrev pub room_for : List Float → List Held → List Held → ℕ
-room_for heights wall out = min (2 * min (length heights) (length wall)) (length out)
+-- how many corners the wall's table and the result's have room for: a strip has its wall twice
+abbrev pub room_for : List Held → List Held → ℕ
+room_for wall out = min (2 * length wall) (length out)
 
 -- how many corners a loop has, and the area they enclose in u and v
 abbrev pub closed_as : Corners Vec3 → Closed

@@ -23,8 +23,9 @@ pub struct Closed {
     pub area: f64,
 }
 
-// There is no room for the strip: how many corners it has before its repeats are dropped; usize::MAX
-// where there are more.
+// There is no room for the strip: how many corners it has before its repeats are dropped. The number
+// saturates at usize::MAX: that is part of what is promised where a strip has more corners than a
+// machine number holds.
 #[derive(Clone, Copy)]
 pub struct TooMany {
     pub corners: usize,
@@ -82,26 +83,25 @@ fn close_rows(
 }
 
 // The band between a lower and an upper ring in the front of `out`: how many corners it has, and
-// their area. The wall and its heights are scratch. The strip is counted first: where there is no
-// room for it, `out` stays as it is.
+// their area. The wall is scratch. The strip is counted first: where there is no room for it, `out`
+// stays as it is.
 pub fn close_strip(
     lower: &[Corner],
     upper: &[Corner],
     patch: Patch,
     period: f64,
-    heights: &mut [f64],
     wall: &mut [Corner],
     out: &mut [Corner],
 ) -> Result<Closed, TooMany>
-    ensures value { (sense : Bool) → result ≡ closing_of (setting_on patch period sense) (rows lower.now) (rows upper.now) (room_for heights.old wall.old out.old) }
-    ensures out_after { (sense : Bool) → rows out.new ≡ closed_into (setting_on patch period sense) (rows lower.now) (rows upper.now) (room_for heights.old wall.old out.old) (rows out.old) }
+    ensures value { (sense : Bool) → result ≡ closing_of (setting_on patch period sense) (rows lower.now) (rows upper.now) (room_for wall.old out.old) }
+    ensures out_after { (sense : Bool) → rows out.new ≡ closed_into (setting_on patch period sense) (rows lower.now) (rows upper.now) (room_for wall.old out.old) (rows out.old) }
 {
     let inner = inner_between(lower, upper, patch);
     let n = strip_rows(lower, upper, inner);
-    let walls = 2 * heights.len().min(wall.len());
-    if walls.min(out.len()) < n {
+    let room = (2 * wall.len()).min(out.len());
+    if room < n {
         return Err(TooMany { corners: n });
     }
-    raise_wall(heights, wall, lower, upper, patch);
+    raise_wall(wall, lower, upper, patch);
     Ok(close_rows(lower, upper, part(wall, 0, inner), period, n, out))
 }

@@ -1,14 +1,15 @@
 // The heights of a wall, and the surface points that stand there.
-ghost use Rattle.std.specs.Prelude.{◌≡◌, map, ◌≤◌, ◌<◌, length};
+ghost use Rattle.std.specs.Prelude.{◌≡◌, map, length};
 ghost use Rattle.std.proofs.lemmas.List.Edits.{sets};
 ghost use Rattle.lists.specs.Placed.{placed};
+ghost use Rattle.surfaces.specs.Rungs.{kept_left};
 ghost use Rattle.bands.specs.Columns.{ladder_on, heights_on, heights_kept};
 ghost use Rattle.tables.specs.Rows.{rows};
 ghost use Rattle.strip.specs.Corners.{heights_between, row_on, wall_between};
 
 use numbers::math::Vec2;
 use numbers::order::{max, min};
-use surfaces::knots::{inner_count, inner_into};
+use surfaces::knots::{KeptDivisions, inner_count, inner_into};
 use surfaces::patch::Patch;
 use surfaces::steps::v_steps;
 use tables::corners::Corner;
@@ -63,30 +64,42 @@ pub fn inner_between(lower: &[Corner], upper: &[Corner], patch: Patch) -> usize
     wall_count(patch, l.v, u.v)
 }
 
-// The surface points at u and each of the heights, in the front of the wall's table.
-fn raise(wall: &mut [Corner], patch: Patch, u: f64, heights: &[f64])
-    ensures { rows wall.new ≡ placed 0 (map (row_on patch u) heights.now) (rows wall.old) }
+// The surface points at u and at each v that `heights` gives, in the front of the wall's table, as many
+// as there is room for.
+fn raise_up(wall: &mut [Corner], patch: Patch, u: f64, heights: KeptDivisions)
+    ensures { rows wall.new ≡ sets (rows wall.old) 0 (map (row_on patch u) (kept_left heights)) }
 {
-    if wall.len() < heights.len() {
-        return;
-    }
-    for (i, &v) in heights.iter().enumerate() {
+    for (k, v) in heights.enumerate() {
+        if k == wall.len() {
+            return;
+        }
         let at = patch.point_at(Vec2 { u, v });
-        wall[i] = Corner { u, v, at };
+        wall[k] = Corner { u, v, at };
     }
 }
 
-// The wall between two rings, in the front of a table; its heights are scratch. Both walls of a strip
-// take their points at one u, so that they agree to the bit: it is raised once and read both ways.
-pub fn raise_wall(
-    heights: &mut [f64],
-    wall: &mut [Corner],
-    lower: &[Corner],
-    upper: &[Corner],
-    patch: Patch,
-)
-    ensures raised { length (heights_between patch (rows lower.now) (rows upper.now)) ≤ length heights.old → rows wall.new ≡ placed 0 (wall_between patch (rows lower.now) (rows upper.now)) (rows wall.old) }
-    ensures no_room { length heights.old < length (heights_between patch (rows lower.now) (rows upper.now)) → wall.new ≡ wall.old }
+// A wall that has just as many corners as there are heights. It is always raised from the lesser v, and
+// reversed where that is not the lower ring's, so that a wall read downward has the same corners to the
+// bit. The last of the divisions that are kept has no place in it: a ring stands there.
+fn raise(wall: &mut [Corner], patch: Patch, u: f64, lower: f64, upper: f64)
+    requires { length wall.old ≡ length (heights_on patch.surface patch.options lower upper) }
+    ensures { rows wall.new ≡ map (row_on patch u) (heights_on patch.surface patch.options lower upper) }
+{
+    let lo = min(lower, upper);
+    let hi = max(lower, upper);
+    let steps = v_steps(patch.surface, lo, hi, patch.options);
+    raise_up(wall, patch, u, KeptDivisions::new(lo, hi, steps));
+    if lower <= upper {
+        return;
+    }
+    wall.reverse();
+}
+
+// The wall between two rings, in the front of a table; nothing is written where it does not fit. Both
+// walls of a strip take their points at one u, so that they agree to the bit: it is raised once and
+// read both ways.
+pub fn raise_wall(wall: &mut [Corner], lower: &[Corner], upper: &[Corner], patch: Patch)
+    ensures { rows wall.new ≡ placed 0 (wall_between patch (rows lower.now) (rows upper.now)) (rows wall.old) }
 {
     let [l, ..] = lower else {
         return;
@@ -95,9 +108,8 @@ pub fn raise_wall(
         return;
     };
     let n = wall_count(patch, l.v, u.v);
-    if heights.len() < n {
+    if wall.len() < n {
         return;
     }
-    heights_into(heights, patch, l.v, u.v);
-    raise(wall, patch, l.u, &heights[..n]);
+    raise(&mut wall[..n], patch, l.u, l.v, u.v);
 }

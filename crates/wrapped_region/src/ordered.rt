@@ -33,21 +33,20 @@ fn close_between(
     crosses: bool,
     patch: Patch,
     period: f64,
-    heights: &mut [f64],
     wall: &mut [Corner],
     out: &mut [Corner],
 ) -> Result<Closed, TooMany>
-    ensures value { (sense : Bool) → result ≡ closing_of (setting_on patch period sense) (rows lower.now) (map (move_v (lifted_by (v_period patch.surface) crosses)) (rows upper.old)) (room_for heights.old wall.old out.old) }
-    ensures out_after { (sense : Bool) → rows out.new ≡ closed_into (setting_on patch period sense) (rows lower.now) (map (move_v (lifted_by (v_period patch.surface) crosses)) (rows upper.old)) (room_for heights.old wall.old out.old) (rows out.old) }
+    ensures value { (sense : Bool) → result ≡ closing_of (setting_on patch period sense) (rows lower.now) (map (move_v (lifted_by (v_period patch.surface) crosses)) (rows upper.old)) (room_for wall.old out.old) }
+    ensures out_after { (sense : Bool) → rows out.new ≡ closed_into (setting_on patch period sense) (rows lower.now) (map (move_v (lifted_by (v_period patch.surface) crosses)) (rows upper.old)) (room_for wall.old out.old) (rows out.old) }
     ensures upper_after { rows upper.new ≡ map (move_v (lifted_by (v_period patch.surface) crosses)) (rows upper.old) }
 {
     lift_ring(upper, patch.surface.v_period(), crosses);
-    close_strip(lower, upper, patch, period, heights, wall, out)
+    close_strip(lower, upper, patch, period, wall, out)
 }
 
 // The strip between two rings into the front of `out`, as `close_strip` closes it; with1 and with2 say
-// whether the first and the later one go with the face. The wall and its heights are scratch. The
-// upper ring stays lifted, the lower one as it was.
+// whether the first and the later one go with the face. The wall is scratch. The upper ring stays
+// lifted, the lower one as it was.
 pub fn close_ordered(
     first: &mut [Corner],
     later: &mut [Corner],
@@ -55,12 +54,11 @@ pub fn close_ordered(
     with2: bool,
     patch: Patch,
     period: f64,
-    heights: &mut [f64],
     wall: &mut [Corner],
     out: &mut [Corner],
 ) -> Result<Closed, TooMany>
-    ensures value { (sense : Bool) → result ≡ closing_of (setting_on patch period sense) (lower_of (setting_on patch period sense) with1 with2 (rings_of first.old later.old)) (upper_of (setting_on patch period sense) with1 with2 (rings_of first.old later.old)) (room_for heights.old wall.old out.old) }
-    ensures out_after { (sense : Bool) → rows out.new ≡ closed_into (setting_on patch period sense) (lower_of (setting_on patch period sense) with1 with2 (rings_of first.old later.old)) (upper_of (setting_on patch period sense) with1 with2 (rings_of first.old later.old)) (room_for heights.old wall.old out.old) (rows out.old) }
+    ensures value { (sense : Bool) → result ≡ closing_of (setting_on patch period sense) (lower_of (setting_on patch period sense) with1 with2 (rings_of first.old later.old)) (upper_of (setting_on patch period sense) with1 with2 (rings_of first.old later.old)) (room_for wall.old out.old) }
+    ensures out_after { (sense : Bool) → rows out.new ≡ closed_into (setting_on patch period sense) (lower_of (setting_on patch period sense) with1 with2 (rings_of first.old later.old)) (upper_of (setting_on patch period sense) with1 with2 (rings_of first.old later.old)) (room_for wall.old out.old) (rows out.old) }
     ensures first_after { (sense : Bool) → rows first.new ≡ (if first_lower (setting_on patch period sense) with1 with2 (rings_of first.old later.old) then rows first.old else upper_of (setting_on patch period sense) with1 with2 (rings_of first.old later.old)) }
     ensures later_after { (sense : Bool) → rows later.new ≡ (if first_lower (setting_on patch period sense) with1 with2 (rings_of first.old later.old) then upper_of (setting_on patch period sense) with1 with2 (rings_of first.old later.old) else rows later.old) }
 {
@@ -68,8 +66,8 @@ pub fn close_ordered(
     let mean2 = mean_v(later);
     if first_is_lower(patch.surface.v_period(), with1, with2, mean1, mean2) {
         let crossed = crosses(with1, with2, mean1, mean2);
-        return close_between(first, later, crossed, patch, period, heights, wall, out);
+        return close_between(first, later, crossed, patch, period, wall, out);
     }
     let crossed = crosses(with2, with1, mean2, mean1);
-    close_between(later, first, crossed, patch, period, heights, wall, out)
+    close_between(later, first, crossed, patch, period, wall, out)
 }

@@ -1,5 +1,5 @@
 -- The band of two rings: the strip of tables is that of bands/specs/Strip.antt, and what the passes leave of it is the band.
-use Prim.Native.Nat.{ℕ, ◌*◌, ◌^◌, ◌≤◌, ◌<◌, min}
+use Prim.Native.Nat.{ℕ, ◌*◌, ◌^◌, ◌≤◌, ◌<◌}
 use mathlib.Core.Path.{◌≡◌, refl, sym, ap, ◌∙◌}
 use mathlib.Core.Bool.{Bool, true, false, cond}
 use mathlib.Core.List.{List, [], ◌∷◌, ◌++◌, append_assoc, map, map-map, reverse}
@@ -156,9 +156,9 @@ module _ (patch : Patch) (period : Float) where
       laid-count : n ≡ capped (length laid)
       laid-count = c.count_is ∙ ap (λ (k : ℕ). capped (strip_count (length lower) (length upper) k)) (sym wall-count) ∙ ap capped (sym (length-strip period lower upper W))
 
-      module _ (heights₀ : List Float) (wall₀ old : List Held) (a room : ℕ) (a_is : a ≡ min (length heights₀) (length wall₀)) (room_is : room ≡ min (2 * a) (length old)) where
+      module _ (wall₀ old : List Held) (room : ℕ) (room_is : room ≡ room_for wall₀ old) where
         abbrev lent : ℕ
-        lent = room_for heights₀ wall₀ old
+        lent = room_for wall₀ old
 
         same-room : room ≡ lent
         same-room = omega arith
@@ -174,24 +174,22 @@ module _ (patch : Patch) (period : Float) where
                 (let e = same-room in omega arith)
 
         module _ (fits_in : n ≤ room) (few : 5 * length old < 2 ^ 64) (wall w : Corners Vec3)
-            (wall_is : length (heights_between patch lower upper) ≤ length heights₀ → wall ≡ placed 0 W (rows wall₀)) (w_is : w ≡ take inner wall) where
+            (wall_is : wall ≡ placed 0 W (rows wall₀)) (w_is : w ≡ take inner wall) where
           count : n ≡ length laid
           count = let e = laid-count in omega arith
 
-          enough : (length (heights_between patch lower upper) ≤ length heights₀) × (length W ≤ length wall₀)
+          enough : length W ≤ length wall₀
           enough =
               let few = wall-few lower upper in
               let e = count in
-              let f = wall-count in
-              let g = c.inner_is in
-              (omega arith, omega arith)
+              omega arith
 
           rows_are : w ≡ W
           rows_are =
               let f = wall-count in
               let l = length-rows wall₀ in
-              let room = enough.1 in
-              w_is ∙ (λ i. take (sym f i) (wall_is enough.0 i)) ∙ front-placed W (rows wall₀) (omega arith)
+              let room = enough in
+              w_is ∙ (λ i. take (sym f i) (wall_is i)) ∙ front-placed W (rows wall₀) (omega arith)
 
           pub rows_require : (n ≡ length (strip_with period lower upper w)) × (n ≤ length old)
           rows_require =

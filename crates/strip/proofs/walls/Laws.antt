@@ -2,18 +2,22 @@
 use Prim.Native.Nat.{ℕ, ◌+◌, ◌≤◌, ◌<◌}
 use mathlib.Core.Path.{◌≡◌, refl, sym, ap, ◌∙◌}
 use mathlib.Core.Bool.{Bool, true, false, cond}
-use mathlib.Core.List.{List, ◌++◌, reverse}
+use mathlib.Core.List.{List, ◌++◌, map, reverse}
 use native.Mathlib.Omega.{arith}
 use lib.Ieee.{Float, le}
-use lib.ListN.{length, take, drop, length-reverse}
+use lib.ListN.{length, take, drop, length-map, length-reverse}
 use lib.Seq.{sets, sets-eq, take_at, drop_at}
 use Rattle.numbers.specs.Order.{min_of, max_of}
 use Rattle.surfaces.specs.declared.options.Resolved.{Resolved}
 use Rattle.surfaces.specs.declared.surface.Surface.{Surface}
-use Rattle.surfaces.specs.Rungs.{rungs, inner}
+use Rattle.surfaces.specs.Rungs.{kept_divisions, rungs, inner}
 use Rattle.surfaces.specs.Steps.{v_steps_of}
 use Rattle.lists.specs.Placed.{placed}
-use Rattle.lists.proofs.Placed.{placed-fits, placed_short}
+use Rattle.surfaces.proofs.knots.Inner.{inner-take}
+use Rattle.surfaces.proofs.knots.Rungs.{inner-kept}
+use Rattle.lists.proofs.Maps.{map-take, map-reverse}
+use Rattle.lists.proofs.Placed.{placed-fits, placed_short, placed_whole}
+use Rattle.lists.proofs.Stores.{sets-room}
 use Rattle.bands.specs.Columns.{ladder_on, heights_on, heights_kept}
 use Rattle.bands.specs.Strip.{ladder, heights}
 use Rattle.bands.proofs.Walls.{heights-kept}
@@ -26,7 +30,7 @@ sets-front w d n e h =
     let place : 0 + length w ≡ n = omega arith in
     sets-eq w d 0 room ∙ ap (λ (k : ℕ). w ++ drop k d) place
 
-placed-front : (w d : List Float) (n : ℕ) → n ≡ length w → n ≤ length d → placed 0 w d ≡ w ++ drop n d
+pub placed-front : {A : Type 0} (w d : List A) (n : ℕ) → n ≡ length w → n ≤ length d → placed 0 w d ≡ w ++ drop n d
 placed-front w d n e h =
     let place : 0 + length w ≡ n = omega arith in
     placed-fits 0 w d (omega arith) ∙ ap (λ (k : ℕ). w ++ drop k d) place
@@ -48,8 +52,33 @@ module _ (s : Surface) (o : Resolved) (a b : Float) where
     pub count_is : (k : ℕ) → k ≡ length (inner (rungs lo hi n)) → k ≡ length (heights_on s o a b)
     count_is k e = e ∙ ap length ladder_is ∙ sym length-heights
 
+    -- so many of the divisions kept behind the first as there are inner rungs
+    pub raised_up : {B : Type 0} (f : Float → B) (os now : List B) → length os ≡ length (heights_on s o a b) → now ≡ sets os 0 (map f (drop 1 (kept_divisions lo hi n)))
+        → now ≡ map f (ladder_on s o a b)
+    raised_up f os now long e =
+        let xs = kept_divisions lo hi n in
+        let is : inner xs ≡ ladder_on s o a b = sym (inner-kept lo hi n) ∙ ladder_is in
+        let m : length os ≡ length (inner xs) = long ∙ length-heights ∙ ap length (sym is) in
+        let w : take (length (inner xs)) (map f (drop 1 xs)) ≡ map f (inner xs) = sym (map-take f (length (inner xs)) (drop 1 xs)) ∙ ap (map f) (inner-take xs) in
+        let room : 0 + length (map f (inner xs)) ≤ length os = omega (arith, length-map (inner xs) f) in
+        e ∙ sym (sets-room os 0 (length (inner xs)) (map f (drop 1 xs)) (omega arith)) ∙ ap (sets os 0) w
+        ∙ sets-eq (map f (inner xs)) os 0 room ∙ sym (placed-fits 0 (map f (inner xs)) os room)
+        ∙ placed_whole (map f (inner xs)) os (length-map (inner xs) f ∙ sym m) ∙ ap (map f) is
+
     pub ladder-written : (d e : List Float) → e ≡ sets d 0 (inner (rungs lo hi n)) → e ≡ sets d 0 (ladder_on s o a b)
     ladder-written d e h = h ∙ ap (sets d 0) ladder_is
+
+  -- the ladder as the first wall reads it
+  module _ {B : Type 0} (f : Float → B) {up : List B} (is : up ≡ map f (ladder_on s o a b)) where
+    pub read_up : le a b ≡ true → up ≡ map f (heights_on s o a b)
+    unfolding heights
+    read_up order = is ∙ sym (ap (λ (t : Bool). map f (cond t (ladder_on s o a b) (reverse (ladder_on s o a b)))) order)
+
+    pub read_down : {down : List B} → le a b ≡ false → down ≡ reverse up → down ≡ map f (heights_on s o a b)
+    unfolding heights
+    read_down order turned =
+        turned ∙ ap reverse is ∙ sym (map-reverse f (ladder_on s o a b))
+        ∙ sym (ap (λ (t : Bool). map f (cond t (ladder_on s o a b) (reverse (ladder_on s o a b)))) order)
 
   -- by the rungs, and by the divisions kept
   pub both_heights : (d e : List Float) → e ≡ placed 0 (heights_on s o a b) d → (e ≡ placed 0 (heights_on s o a b) d) × (e ≡ placed 0 (heights_kept s o a b) d)

@@ -1,21 +1,21 @@
 -- The wall between two rings, raised from its heights.
-use Rattle.std.proofs.Common.{◌≡◌, ℕ, ◌+◌, ◌≤◌, ◌<◌, List, [], ◌∷◌, length, get_or, set, take, map, refl, sym, ap, ◌∙◌, arith}
+use Rattle.std.proofs.Common.{◌≡◌, ℕ, ◌+◌, ◌≤◌, ◌<◌, List, [], ◌∷◌, ◌++◌, length, get_or, set, drop, map, refl, sym, ap, ◌∙◌, add-one, arith, length-set}
 use Rattle.std.proofs.lemmas.List.{length-map}
+use Rattle.std.proofs.lemmas.List.Edits.{sets}
 use Rattle.std.specs.Prelude.{Float}
-use Rattle.std.specs.Float.{nan}
 use Rattle.numbers.specs.declared.math.Vec3.{Vec3}
 use Rattle.surfaces.specs.declared.patch.Patch.{Patch}
 use Rattle.surfaces.specs.Points.{point_of}
 use Rattle.lists.specs.Placed.{placed}
-use Rattle.lists.proofs.Elements.{get_d_map}
-use Rattle.lists.proofs.Filling.{Filling, front, front_turn, filling_end}
-use Rattle.lists.proofs.Placed.{placed_short, placed-none, front-placed}
-use Rattle.tables.specs.Corners.{Corners}
-use Rattle.tables.specs.Rows.{rows, corner_of, none}
+use Rattle.lists.proofs.Placed.{placed_short, placed-none}
+use Rattle.lists.proofs.Stores.{sets-past}
+use Rattle.tables.specs.Corners.{Corner, Corners}
+use Rattle.tables.specs.Rows.{rows, none}
 use Rattle.tables.specs.declared.corners.Corner.{Corner as Held}
-use Rattle.tables.proofs.Rows.{length-rows, rows-set, absent}
+use Rattle.tables.proofs.Rows.{length-rows, rows-set, rows_append, rows_drop, row_at, absent}
 use Rattle.bands.specs.Columns.{heights_on}
 use Rattle.strip.specs.Corners.{heights_between, row_on, wall_between}
+use Rattle.strip.proofs.walls.Laws.{placed-front}
 
 -- ---- heights between two rings
 
@@ -38,31 +38,38 @@ module _ (patch : Patch) where
   heights-there (l ∷ lower) [] a b = absurd (omega arith)
   heights-there (l ∷ lower) (u ∷ upper) a b = refl
 
--- ---- `raise`
+-- ---- `raise_up`
 
-module _ (patch : Patch) (u : Float) (heights : List Float) (wall₀ : List Held) where
-  pub record Raising (wall : List Held) (i : ℕ) : Type 0 where
-    pub room : length heights ≤ length wall₀
-    pub is : Filling 0 (map (row_on patch u) heights) (rows wall₀) (rows wall) i
+-- the rows of `left` are to be stored from k on
+module _ (patch : Patch) (u : Float) (all : List Float) (wall₀ : List Held) where
+  pub record Raising (wall : List Held) (k : ℕ) (left : List Float) : Type 0 where
+    pub room : k ≤ length wall
+    pub is : sets (rows wall) k (map (row_on patch u) left) ≡ sets (rows wall₀) 0 (map (row_on patch u) all)
 
-  pub not_raised : length wall₀ < length heights → rows wall₀ ≡ placed 0 (map (row_on patch u) heights) (rows wall₀)
-  not_raised h = sym (placed_short 0 _ (rows wall₀) (let l = length-rows wall₀ in let m = length-map heights (row_on patch u) in omega arith))
+  pub raising : {k : ℕ} {left : List Float} → k ≡ 0 → left ≡ all → Raising wall₀ k left
+  raising e f = record { room = omega arith; is = λ i. sets (rows wall₀) (e i) (map (row_on patch u) (f i)) }
 
-  pub raising : length heights ≤ length wall₀ → Raising wall₀ 0
-  raising h = record { room = h; is = front _ _ (let l = length-rows wall₀ in let m = length-map heights (row_on patch u) in omega arith) }
+  module _ {wall : List Held} {k : ℕ} {left : List Float} (r : Raising wall k left) where
+    pub raising_full : k ≡ length wall → rows wall ≡ sets (rows wall₀) 0 (map (row_on patch u) all)
+    raising_full e = sym (sets-past (rows wall) k (map (row_on patch u) left) (omega (arith, length-rows wall))) ∙ r.is
 
-  pub raising_turn : (wall : List Held) (i : ℕ) (at : Vec3) → Raising wall i → i < length heights → at ≡ point_of patch.frame patch.surface u (get_or heights i nan)
-      → Raising (set wall i (record { u = u; v = get_or heights i nan; at = at })) (i + 1)
-  raising_turn wall i at r h e =
-      let stored : corner_of (record { u = u; v = get_or heights i nan; at = at }) ≡ get_or (map (row_on patch u) heights) i (row_on patch u nan) =
-      (λ k. record { u = u; v = get_or heights i nan; at = e k }) ∙ sym (get_d_map (row_on patch u) heights i _ nan h) in
-      record {
-        room = r.room;
-        is = rw (rows-set wall i _) (front_turn _ _ (rows wall) i _ (row_on patch u nan) r.is (let m = length-map heights (row_on patch u) in omega arith) stored);
-      }
+    pub raising_end : left ≡ [] → rows wall ≡ sets (rows wall₀) 0 (map (row_on patch u) all)
+    raising_end e = ap (λ (l : List Float). sets (rows wall) k (map (row_on patch u) l)) (sym e) ∙ r.is
 
-  pub raising_end : (wall : List Held) (i : ℕ) → Raising wall i → length heights ≤ i → rows wall ≡ placed 0 (map (row_on patch u) heights) (rows wall₀)
-  raising_end wall i r h = filling_end 0 _ _ (rows wall) i r.is (let m = length-map heights (row_on patch u) in omega arith)
+    pub raising_turn : {v : Float} {at : Vec3} {behind : List Float} → (k ≡ length wall → ⊥) → left ≡ v ∷ behind → at ≡ point_of patch.frame patch.surface u v
+        → Raising (set wall k (record { u = u; v = v; at = at })) (k + 1) behind
+    raising_turn {v} {at} {behind} more e point =
+        let c : Held = record { u = u; v = v; at = at } in
+        let place = r.room in
+        let short : k < length wall = omega (arith, more) in
+        record {
+          room = omega (arith, length-set wall k c);
+          is =
+              ap (λ (w : Corners Vec3). sets w (k + 1) (map (row_on patch u) behind)) (rows-set wall k c)
+              ∙ (λ i. sets (set (rows wall) k (record { u = u; v = v; at = point i })) (add-one k i) (map (row_on patch u) behind))
+              ∙ ap (λ (l : List Float). sets (rows wall) k (map (row_on patch u) l)) (sym e)
+              ∙ r.is;
+        }
 
 -- ---- `raise_wall`
 
@@ -70,16 +77,23 @@ pub no_wall : (patch : Patch) (lower upper before : Corners Vec3) → heights_be
 no_wall patch lower upper before e =
     sym (ap (λ (h : List Float). placed 0 (map (row_on patch (get_or lower 0 none).u) h) before) e ∙ placed-none 0 before)
 
--- the heights stand in the front of the lent ones, and the wall is raised from there
-pub raised : (patch : Patch) (lower upper : List Held) (lent heights : List Float) (before after : Corners Vec3) (n : ℕ) → 0 < length lower → 0 < length upper
-    → n ≡ length (heights_on patch.surface patch.options (get_or lower 0 absent).v (get_or upper 0 absent).v) → n ≤ length lent
-    → heights ≡ placed 0 (heights_on patch.surface patch.options (get_or lower 0 absent).v (get_or upper 0 absent).v) lent
-    → after ≡ placed 0 (map (row_on patch (get_or lower 0 absent).u) (take n heights)) before
-    → after ≡ placed 0 (wall_between patch (rows lower) (rows upper)) before
-unfolding rows
-raised patch [] upper lent heights before after n a b count room written is = absurd (omega arith)
-raised patch (l ∷ lower) upper lent heights before after n a b count room written is =
-    let h = heights_on patch.surface patch.options l.v (get_or upper 0 absent).v in
-    let there : take n heights ≡ heights_between patch (rows (l ∷ lower)) (rows upper) =
-    (λ i. take (count i) (written i)) ∙ front-placed h lent (omega arith) ∙ heights-there patch (l ∷ lower) upper a b in
-    is ∙ ap (λ (w : List Float). placed 0 (map (row_on patch l.u) w) before) there
+module _ (patch : Patch) (lower upper before : List Held) (n : ℕ) (a : 0 < length lower) (b : 0 < length upper)
+    (count : n ≡ length (heights_on patch.surface patch.options (get_or lower 0 absent).v (get_or upper 0 absent).v)) where
+  abbrev W : Corners Vec3
+  W = wall_between patch (rows lower) (rows upper)
+
+  long : length W ≡ n
+  long = length-map (heights_between patch (rows lower) (rows upper)) (row_on patch (get_or (rows lower) 0 none).u)
+      ∙ sym (count ∙ ap length (heights-there patch lower upper a b))
+
+  pub too_low : length before < n → rows before ≡ placed 0 W (rows before)
+  too_low h = sym (placed_short 0 W (rows before) (let e = long in let l = length-rows before in omega arith))
+
+  pub raised : (part : List Held) → n ≤ length before
+      → rows part ≡ map (row_on patch (get_or lower 0 absent).u) (heights_on patch.surface patch.options (get_or lower 0 absent).v (get_or upper 0 absent).v)
+      → rows (part ++ drop n before) ≡ placed 0 W (rows before)
+  raised part h e =
+      let l = length-rows before in
+      let first = ap (λ (c : Corner Vec3). c.u) (row_at lower 0 a) in
+      let front : rows part ≡ W = e ∙ (λ i. map (row_on patch (sym first i)) (heights-there patch lower upper a b i)) in
+      rows_append part (drop n before) ∙ (λ i. front i ++ rows_drop n before i) ∙ sym (placed-front W (rows before) n (sym long) (omega arith))

@@ -13,7 +13,7 @@ inner-length xs = length-drop_last (drop 1 xs) ∙ ap (λ (k : ℕ). k - 1) (len
 pub inner_counted : (xs : List Float) {k m : ℕ} → k ≡ length xs - 1 → m ≡ k - 1 → m ≡ length (inner xs)
 inner_counted xs e1 e2 = let q = inner-length xs in omega arith
 
-inner-take : (xs : List Float) → take (length (inner xs)) (drop 1 xs) ≡ inner xs
+pub inner-take : (xs : List Float) → take (length (inner xs)) (drop 1 xs) ≡ inner xs
 unfolding inner
 inner-take xs = ap (λ (k : ℕ). take k (drop 1 xs)) (length-drop_last (drop 1 xs)) ∙ sym (drop_last-take (drop 1 xs))
 

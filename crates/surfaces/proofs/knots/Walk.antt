@@ -3,10 +3,11 @@ use Rattle.std.proofs.Common.{◌≡◌, ℕ, suc, ◌+◌, ◌-◌, ◌<◌, �
 use mathlib.Core.List.{drop_last}
 use lib.Seq.{sets, drop-nil}
 use lib.Ieee.{Float, ne}
-use Rattle.surfaces.specs.Rungs.{division, divisions_from, slack_of, near, kept_after, kept_divisions, ended_on, rungs, EndsOn, EndWritten, placed}
+use Rattle.surfaces.specs.Rungs.{division, divisions_from, slack_of, near, kept_after, kept_divisions, kept_left, ended_on, rungs, EndsOn, EndWritten, placed}
+use Rattle.surfaces.specs.declared.knots.KeptDivisions.{KeptDivisions}
 use Rattle.surfaces.proofs.knots.Ended.{ended_is, ended_length}
-use Rattle.surfaces.proofs.knots.Kept.{kept_step}
-use Rattle.surfaces.proofs.knots.Rungs.{kept_are, rungs-kept, rungs-set, rungs-end, end-written, kept-most}
+use Rattle.surfaces.proofs.knots.Kept.{kept_step, kept_after_lem, kept-few}
+use Rattle.surfaces.proofs.knots.Rungs.{from-length, kept_are, rungs-kept, rungs-set, rungs-end, end-written, kept-most}
 
 -- ---- elements stored as those of number k, k + 1, .. of a list whose number `from` stands at 0
 unfoldable pub writes : ℕ → ℕ → List Float → List Float → List Float
@@ -105,6 +106,14 @@ module _ (lo hi : Float) (n : ℕ) (e : Float) where
   pub left_none : (last : Float) (i : ℕ) → n ≤ i → left last i ≡ []
   unfolding kept_after divisions_from
   left_none last i h = let z : n - i ≡ 0 = omega arith in rw z
+
+pub left-few : (s : KeptDivisions) → length (kept_left s) ≤ s.n
+unfolding kept_left
+left-few s =
+    let ds = divisions_from s.lo s.hi s.n (suc s.passed) (s.n - s.passed) in
+    let few = kept-few (kept_after_lem s.slack s.last ds) in
+    let all = from-length s.lo s.hi s.n (suc s.passed) (s.n - s.passed) in
+    omega arith
 
 module _ (lo hi : Float) (n : ℕ) where
   -- what is kept behind the first
