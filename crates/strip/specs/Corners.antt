@@ -3,11 +3,13 @@ use Rattle.std.specs.Prelude.{Bool, List, [], ◌∷◌, ◌++◌, map, reverse,
 use Rattle.numbers.specs.Position.{same}
 use Rattle.numbers.specs.Rounded.{◌⊕◌}
 use Rattle.numbers.specs.declared.math.Vec3.{Vec3}
+use Rattle.surfaces.specs.declared.options.Resolved.{Resolved}
 use Rattle.surfaces.specs.declared.patch.Patch.{Patch}
+use Rattle.surfaces.specs.declared.surface.Surface.{Surface}
 use Rattle.surfaces.specs.Points.{point_of}
 use Rattle.tables.specs.Corners.{Corner, Corners, move_u}
 use Rattle.tables.specs.Rows.{none}
-use Rattle.bands.specs.Columns.{heights_on}
+use Rattle.bands.specs.Columns.{heights_on, heights_kept}
 
 -- item 5 of "Where port and Rust part": "its three coordinates equal, as numbers, those of the corner kept before it"
 abbrev pub same_at : Corner Vec3 → Corner Vec3 → Bool
@@ -17,19 +19,29 @@ same_at a b = same a.at b.at
 abbrev pub at_u : Float → Corner Vec3 → Corner Vec3
 at_u u c = move_u (λ _. u) c
 
--- the heights of a wall between two rings: none where a ring has no corner
-unfoldable pub heights_between : Patch → Corners Vec3 → Corners Vec3 → List Float
-heights_between patch [] upper = []
-heights_between patch (l ∷ lower) [] = []
-heights_between patch (l ∷ lower) (u ∷ upper) = heights_on patch.surface patch.options l.v u.v
+-- the heights of a wall between two rings, where `on` has those from one v to another: none where a ring has no corner
+unfoldable pub heights_by : (Surface → Resolved → Float → Float → List Float) → Patch → Corners Vec3 → Corners Vec3 → List Float
+heights_by on patch [] upper = []
+heights_by on patch (l ∷ lower) [] = []
+heights_by on patch (l ∷ lower) (u ∷ upper) = on patch.surface patch.options l.v u.v
+
+abbrev pub heights_between : Patch → Corners Vec3 → Corners Vec3 → List Float
+heights_between = heights_by heights_on
 
 -- a wall's row at u and v
 abbrev pub row_on : Patch → Float → Float → Corner Vec3
 row_on patch u v = record { u = u; v = v; at = point_of patch.frame patch.surface u v }
 
 -- "positions are taken at the lower ring's first u"
+abbrev pub wall_by : (Surface → Resolved → Float → Float → List Float) → Patch → Corners Vec3 → Corners Vec3 → Corners Vec3
+wall_by on patch lower upper = map (row_on patch (get_or lower 0 none).u) (heights_by on patch lower upper)
+
 abbrev pub wall_between : Patch → Corners Vec3 → Corners Vec3 → Corners Vec3
-wall_between patch lower upper = map (row_on patch (get_or lower 0 none).u) (heights_between patch lower upper)
+wall_between = wall_by heights_on
+
+-- by the divisions kept: 02, N2 sets the last rung and changes no wall
+abbrev pub wall_kept : Patch → Corners Vec3 → Corners Vec3 → Corners Vec3
+wall_kept = wall_by heights_kept
 
 -- what comes behind the corner where the first wall begins: that wall, one period up, "the upper ring with u falling, the other wall"
 abbrev pub far_side : Float → Corners Vec3 → Corners Vec3 → Corners Vec3

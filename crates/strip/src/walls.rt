@@ -3,13 +3,13 @@ ghost use Rattle.std.specs.Prelude.{◌≡◌, map, length};
 ghost use Rattle.std.proofs.lemmas.List.Edits.{sets};
 ghost use Rattle.lists.specs.Placed.{placed};
 ghost use Rattle.surfaces.specs.Rungs.{kept_left};
-ghost use Rattle.bands.specs.Columns.{ladder_on, heights_on, heights_kept};
+ghost use Rattle.bands.specs.Columns.{heights_on, heights_kept};
 ghost use Rattle.tables.specs.Rows.{rows};
-ghost use Rattle.strip.specs.Corners.{heights_between, row_on, wall_between};
+ghost use Rattle.strip.specs.Corners.{heights_between, row_on, wall_between, wall_kept};
 
 use numbers::math::Vec2;
 use numbers::order::{max, min};
-use surfaces::knots::{KeptDivisions, inner_count, inner_into};
+use surfaces::knots::{KeptDivisions, inner_count};
 use surfaces::patch::Patch;
 use surfaces::steps::v_steps;
 use tables::corners::Corner;
@@ -22,33 +22,6 @@ pub fn wall_count(patch: Patch, lower: f64, upper: f64) -> usize
     let lo = min(lower, upper);
     let hi = max(lower, upper);
     inner_count(lo, hi, v_steps(patch.surface, lo, hi, patch.options))
-}
-
-// The inner rungs from the lesser to the greater v, as many as there is room for.
-fn ladder_into(dst: &mut [f64], patch: Patch, a: f64, b: f64)
-    ensures { dst.new ≡ sets dst.old 0 (ladder_on patch.surface patch.options a b) }
-{
-    let lo = min(a, b);
-    let hi = max(a, b);
-    inner_into(lo, hi, v_steps(patch.surface, lo, hi, patch.options), dst);
-}
-
-// The heights of a wall, from the lower ring's first v to the upper's. Where they do not fit, nothing
-// is written. They are always counted from the lesser v, so that a wall read downward has the same
-// heights to the bit.
-pub fn heights_into(dst: &mut [f64], patch: Patch, lower: f64, upper: f64)
-    ensures dst_after { dst.new ≡ placed 0 (heights_on patch.surface patch.options lower upper) dst.old }
-    ensures dst_as_kept { dst.new ≡ placed 0 (heights_kept patch.surface patch.options lower upper) dst.old }
-{
-    let n = wall_count(patch, lower, upper);
-    if dst.len() < n {
-        return;
-    }
-    ladder_into(dst, patch, lower, upper);
-    if lower <= upper {
-        return;
-    }
-    dst[..n].reverse();
 }
 
 // How many corners a wall between two rings has.
@@ -99,7 +72,8 @@ fn raise(wall: &mut [Corner], patch: Patch, u: f64, lower: f64, upper: f64)
 // walls of a strip take their points at one u, so that they agree to the bit: it is raised once and
 // read both ways.
 pub fn raise_wall(wall: &mut [Corner], lower: &[Corner], upper: &[Corner], patch: Patch)
-    ensures { rows wall.new ≡ placed 0 (wall_between patch (rows lower.now) (rows upper.now)) (rows wall.old) }
+    ensures raised { rows wall.new ≡ placed 0 (wall_between patch (rows lower.now) (rows upper.now)) (rows wall.old) }
+    ensures as_kept { rows wall.new ≡ placed 0 (wall_kept patch (rows lower.now) (rows upper.now)) (rows wall.old) }
 {
     let [l, ..] = lower else {
         return;

@@ -26,7 +26,7 @@ use Rattle.bands.specs.Columns.{heights_on, setting_on}
 use Rattle.bands.specs.Strip.{Setting, strip, wall}
 use Rattle.std.specs.Prelude.{Result, Ok, Err}
 use Rattle.strip.specs.Closing.{room_for, closed_as, no_room, same_corner, band_between, closing_of, closed_into}
-use Rattle.strip.specs.Corners.{same_at, at_u, far_side, row_on, heights_between, wall_between, strip_with}
+use Rattle.strip.specs.Corners.{same_at, at_u, far_side, row_on, heights_by, heights_between, wall_between, strip_with}
 use Rattle.strip.specs.Count.{capped, strip_count}
 use Rattle.strip.specs.declared.closing.Closed.{Closed}
 use Rattle.strip.specs.declared.closing.TooMany.{TooMany}
@@ -111,7 +111,7 @@ round p q r s c₁ c₂ = simp append_assoc
 module _ (patch : Patch) (period : Float) where
   strip_is : (sense : Bool) (lower upper : Corners Vec3)
       → strip (setting_on patch period sense) lower upper ≡ strip_with period lower upper (wall_between patch lower upper)
-  unfolding strip strip_with heights_between
+  unfolding strip strip_with heights_by
   strip_is sense [] upper = refl
   strip_is sense (l ∷ lower) [] = refl
   strip_is sense (l ∷ lower) (u ∷ upper) =
@@ -124,7 +124,7 @@ module _ (patch : Patch) (period : Float) where
 
   wall-few : (lower upper : Corners Vec3)
       → 2 * length (wall_between patch lower upper) ≤ length (strip_with period lower upper (wall_between patch lower upper))
-  unfolding strip_with heights_between
+  unfolding strip_with heights_by
   wall-few [] upper = omega arith
   wall-few (l ∷ lower) [] = omega arith
   wall-few (l ∷ lower) (u ∷ upper) =

@@ -6,7 +6,7 @@ use mathlib.Core.List.{List, ◌++◌, map, reverse}
 use native.Mathlib.Omega.{arith}
 use lib.Ieee.{Float, le}
 use lib.ListN.{length, take, drop, length-map, length-reverse}
-use lib.Seq.{sets, sets-eq, take_at, drop_at}
+use lib.Seq.{sets, sets-eq}
 use Rattle.numbers.specs.Order.{min_of, max_of}
 use Rattle.surfaces.specs.declared.options.Resolved.{Resolved}
 use Rattle.surfaces.specs.declared.surface.Surface.{Surface}
@@ -16,19 +16,12 @@ use Rattle.lists.specs.Placed.{placed}
 use Rattle.surfaces.proofs.knots.Inner.{inner-take}
 use Rattle.surfaces.proofs.knots.Rungs.{inner-kept}
 use Rattle.lists.proofs.Maps.{map-take, map-reverse}
-use Rattle.lists.proofs.Placed.{placed-fits, placed_short, placed_whole}
+use Rattle.lists.proofs.Placed.{placed-fits, placed_whole}
 use Rattle.lists.proofs.Stores.{sets-room}
-use Rattle.bands.specs.Columns.{ladder_on, heights_on, heights_kept}
+use Rattle.bands.specs.Columns.{ladder_on, heights_on}
 use Rattle.bands.specs.Strip.{ladder, heights}
-use Rattle.bands.proofs.Walls.{heights-kept}
 
 -- ---- heights
-
-sets-front : (w d : List Float) (n : ℕ) → n ≡ length w → n ≤ length d → sets d 0 w ≡ w ++ drop n d
-sets-front w d n e h =
-    let room : 0 + length w ≤ length d = omega arith in
-    let place : 0 + length w ≡ n = omega arith in
-    sets-eq w d 0 room ∙ ap (λ (k : ℕ). w ++ drop k d) place
 
 pub placed-front : {A : Type 0} (w d : List A) (n : ℕ) → n ≡ length w → n ≤ length d → placed 0 w d ≡ w ++ drop n d
 placed-front w d n e h =
@@ -65,9 +58,6 @@ module _ (s : Surface) (o : Resolved) (a b : Float) where
         ∙ sets-eq (map f (inner xs)) os 0 room ∙ sym (placed-fits 0 (map f (inner xs)) os room)
         ∙ placed_whole (map f (inner xs)) os (length-map (inner xs) f ∙ sym m) ∙ ap (map f) is
 
-    pub ladder-written : (d e : List Float) → e ≡ sets d 0 (inner (rungs lo hi n)) → e ≡ sets d 0 (ladder_on s o a b)
-    ladder-written d e h = h ∙ ap (sets d 0) ladder_is
-
   -- the ladder as the first wall reads it
   module _ {B : Type 0} (f : Float → B) {up : List B} (is : up ≡ map f (ladder_on s o a b)) where
     pub read_up : le a b ≡ true → up ≡ map f (heights_on s o a b)
@@ -79,32 +69,3 @@ module _ (s : Surface) (o : Resolved) (a b : Float) where
     read_down order turned =
         turned ∙ ap reverse is ∙ sym (map-reverse f (ladder_on s o a b))
         ∙ sym (ap (λ (t : Bool). map f (cond t (ladder_on s o a b) (reverse (ladder_on s o a b)))) order)
-
-  -- by the rungs, and by the divisions kept
-  pub both_heights : (d e : List Float) → e ≡ placed 0 (heights_on s o a b) d → (e ≡ placed 0 (heights_on s o a b) d) × (e ≡ placed 0 (heights_kept s o a b) d)
-  both_heights d e h = (h, h ∙ ap (λ (w : List Float). placed 0 w d) (heights-kept s o a b))
-
-  module _ (d : List Float) (n : ℕ) (count : n ≡ length (heights_on s o a b)) where
-    pub heights-none : length d < n → d ≡ placed 0 (heights_on s o a b) d
-    heights-none h = sym (placed_short 0 (heights_on s o a b) d (omega arith))
-
-    module _ (e : List Float) (room : n ≤ length d) (written : e ≡ sets d 0 (ladder_on s o a b)) where
-      long : n ≡ length (ladder_on s o a b)
-      long = count ∙ length-heights
-
-      front : e ≡ ladder_on s o a b ++ drop n d
-      front = written ∙ sets-front (ladder_on s o a b) d n long room
-
-      goal : (t : Bool) → le a b ≡ t → placed 0 (heights_on s o a b) d ≡ cond t (ladder_on s o a b) (reverse (ladder_on s o a b)) ++ drop n d
-      unfolding heights
-      goal t order = placed-front (heights_on s o a b) d n count room ∙ ap (λ (u : Bool). cond u (ladder_on s o a b) (reverse (ladder_on s o a b)) ++ drop n d) order
-
-      pub heights_up : le a b ≡ true → e ≡ placed 0 (heights_on s o a b) d
-      heights_up order = front ∙ sym (goal true order)
-
-      pub heights_down : (w : List Float) → le a b ≡ false → w ≡ reverse (take n e) → w ++ drop n e ≡ placed 0 (heights_on s o a b) d
-      heights_down w order turned =
-          let l = ladder_on s o a b in
-          let head : take n e ≡ l = ap (take n) front ∙ take_at l (drop n d) n (sym long) in
-          let tail : drop n e ≡ drop n d = ap (drop n) front ∙ drop_at l (drop n d) n (sym long) in
-          (λ i. (turned ∙ ap reverse head) i ++ tail i) ∙ sym (goal false order)

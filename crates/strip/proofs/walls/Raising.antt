@@ -4,7 +4,9 @@ use Rattle.std.proofs.lemmas.List.{length-map}
 use Rattle.std.proofs.lemmas.List.Edits.{sets}
 use Rattle.std.specs.Prelude.{Float}
 use Rattle.numbers.specs.declared.math.Vec3.{Vec3}
+use Rattle.surfaces.specs.declared.options.Resolved.{Resolved}
 use Rattle.surfaces.specs.declared.patch.Patch.{Patch}
+use Rattle.surfaces.specs.declared.surface.Surface.{Surface}
 use Rattle.surfaces.specs.Points.{point_of}
 use Rattle.lists.specs.Placed.{placed}
 use Rattle.lists.proofs.Placed.{placed_short, placed-none}
@@ -13,27 +15,28 @@ use Rattle.tables.specs.Corners.{Corner, Corners}
 use Rattle.tables.specs.Rows.{rows, none}
 use Rattle.tables.specs.declared.corners.Corner.{Corner as Held}
 use Rattle.tables.proofs.Rows.{length-rows, rows-set, rows_append, rows_drop, row_at, absent}
-use Rattle.bands.specs.Columns.{heights_on}
-use Rattle.strip.specs.Corners.{heights_between, row_on, wall_between}
+use Rattle.bands.specs.Columns.{heights_on, heights_kept}
+use Rattle.bands.proofs.Walls.{heights-kept}
+use Rattle.strip.specs.Corners.{heights_by, heights_between, row_on, wall_by, wall_between, wall_kept}
 use Rattle.strip.proofs.walls.Laws.{placed-front}
 
 -- ---- heights between two rings
 
 module _ (patch : Patch) where
   pub no_lower : (lower upper : List Held) → length lower ≡ 0 → heights_between patch (rows lower) (rows upper) ≡ []
-  unfolding heights_between rows
+  unfolding heights_by rows
   no_lower [] upper e = refl
   no_lower (l ∷ lower) upper e = absurd (omega arith)
 
   pub no_upper : (lower upper : List Held) → length upper ≡ 0 → heights_between patch (rows lower) (rows upper) ≡ []
-  unfolding heights_between rows
+  unfolding heights_by rows
   no_upper [] upper e = refl
   no_upper (l ∷ lower) [] e = refl
   no_upper (l ∷ lower) (u ∷ upper) e = absurd (omega arith)
 
   pub heights-there : (lower upper : List Held) → 0 < length lower → 0 < length upper
       → heights_on patch.surface patch.options (get_or lower 0 absent).v (get_or upper 0 absent).v ≡ heights_between patch (rows lower) (rows upper)
-  unfolding heights_between rows
+  unfolding heights_by rows
   heights-there [] upper a b = absurd (omega arith)
   heights-there (l ∷ lower) [] a b = absurd (omega arith)
   heights-there (l ∷ lower) (u ∷ upper) a b = refl
@@ -72,6 +75,13 @@ module _ (patch : Patch) (u : Float) (all : List Float) (wall₀ : List Held) wh
         }
 
 -- ---- `raise_wall`
+
+-- by the rungs, and by the divisions kept
+pub both_walls : (patch : Patch) (lower upper before after : Corners Vec3) → after ≡ placed 0 (wall_between patch lower upper) before
+    → (after ≡ placed 0 (wall_between patch lower upper) before) × (after ≡ placed 0 (wall_kept patch lower upper) before)
+both_walls patch lower upper before after e =
+    let same : heights_on ≡ heights_kept = (λ i surface options a b. heights-kept surface options a b i) in
+    (e, e ∙ ap (λ (on : Surface → Resolved → Float → Float → List Float). placed 0 (wall_by on patch lower upper) before) same)
 
 pub no_wall : (patch : Patch) (lower upper before : Corners Vec3) → heights_between patch lower upper ≡ [] → before ≡ placed 0 (wall_between patch lower upper) before
 no_wall patch lower upper before e =
