@@ -1,5 +1,5 @@
 -- The divisions that are kept, one after the other, and the rungs counted and written by them, on plain values.
-use Rattle.std.proofs.Common.{◌≡◌, ℕ, suc, ◌+◌, ◌-◌, ◌<◌, ◌≤◌, max, Bool, true, false, cond, leb, List, [], ◌∷◌, ◌++◌, length, drop, set, sym, refl, ap, ◌∙◌, add-one, arith, length-set, set-set, le-leb, leb-false, leb-true}
+use Rattle.std.proofs.Common.{◌≡◌, ℕ, suc, ◌+◌, ◌-◌, ◌<◌, ◌≤◌, max, Bool, true, false, cond, leb, List, [], ◌∷◌, ◌++◌, length, drop, set, sym, refl, ap, ◌∙◌, add-one, arith, set-set, leb-false, leb-true}
 use mathlib.Core.List.{drop_last}
 use lib.Seq.{sets, drop-nil}
 use lib.Ieee.{Float, ne}
@@ -13,19 +13,6 @@ use Rattle.surfaces.proofs.knots.Rungs.{from-length, kept_are, rungs-kept, rungs
 unfoldable pub writes : ℕ → ℕ → List Float → List Float → List Float
 writes from k [] os = os
 writes from k (x ∷ xs) os = writes from (suc k) xs (placed from k x os)
-
-module _ (from k : ℕ) (x : Float) (os : List Float) where
-  place-length : length (placed from k x os) ≡ length os
-  unfolding placed
-  place-length = go (leb from k)
-    where
-      go : (b : Bool) → length (cond b (set os (k - from) x) os) ≡ length os
-      go true = length-set os (k - from) x
-      go false = refl
-
-  pub place_in : from ≤ k → set os (k - from) x ≡ placed from k x os
-  unfolding placed
-  place_in h = rw (le-leb from k h)
 
 writes_is : (from k : ℕ) (xs os : List Float) → writes from k xs os ≡ sets os (k - from) (drop (from - k) xs)
 unfolding writes placed
