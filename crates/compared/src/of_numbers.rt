@@ -72,17 +72,19 @@ pub extern "C" fn compared_round(x: f64) -> f64
 }
 
 #[unsafe(no_mangle)]
+#[tactic(auto, using(numbers::proofs::rounding::Laws::floor_is))]
 pub extern "C" fn compared_floor(x: f64) -> f64
     ensures { result ≡ floor_of x }
 {
-    numbers::rounding::floor(x)
+    x.floor()
 }
 
 #[unsafe(no_mangle)]
+#[tactic(auto, using(numbers::proofs::rounding::Laws::ceil_is))]
 pub extern "C" fn compared_ceil(x: f64) -> f64
     ensures { result ≡ ceil_of x }
 {
-    numbers::rounding::ceil(x)
+    x.ceil()
 }
 
 #[unsafe(no_mangle)]

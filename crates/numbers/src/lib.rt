@@ -1,5 +1,6 @@
 // Reals: every operation that the closer does on an `f64` beyond the machine's own sums, products
-// and comparisons, and the vectors and frames made of them. Total on every `f64`.
+// and comparisons and the library's `abs`, `round`, `floor` and `ceil`, and the vectors and frames
+// made of them. Total on every `f64`.
 #![tactic(auto)]
 
 pub mod bits;

@@ -1,5 +1,7 @@
 // The square root: of a whole number, one bit of the root at each call, and from it that of a real,
-// rounded to the nearest with ties to even.
+// rounded to the nearest with ties to even. Document 01 names this recursion ("Forms in the way": the
+// square root "takes one bit of the root at each call of itself"), so neither `f64::sqrt` nor
+// `u64::isqrt` stands here.
 ghost use Rattle.std.specs.Prelude.{◌≡◌, ◌*◌, ◌^◌, ◌<◌, ◌≤◌, false, T, pos};
 ghost use Rattle.std.specs.Float.Ieee as Ieee;
 ghost use Rattle.std.specs.Float.{fin, inf};

@@ -1,9 +1,9 @@
-// Rounding to a whole number: to the nearest with halves away from zero, down, and up. Not `f64::round`,
-// which means the same: by it a whole surface took 1.08 times the Rust's time, and takes 0.89 by this.
+// Rounding to the nearest whole number, halves away from zero, for the reduction of an angle. `f64::round`
+// means the same and stands everywhere else; `trig::sin_cos` says why not there.
 ghost use Rattle.std.specs.Prelude.{◌≡◌, true, false, T, pos};
 ghost use Rattle.std.specs.Float.Ieee as Ieee;
 ghost use Rattle.std.specs.Float.{fin};
-ghost use Rattle.numbers.specs.Round.{round_away, floor_of, ceil_of};
+ghost use Rattle.numbers.specs.Round.{round_away};
 
 // x above zero, to the nearest whole number. From 2^53 on every float is whole. Below that the
 // double is exact, and half of (floor(2x) + 1), cut, is floor(x + 1/2).
@@ -19,36 +19,6 @@ fn half_up(x: f64) -> f64
     }
 }
 
-// x above zero, rounded down.
-fn floor_positive(x: f64) -> f64
-    requires { T (Ieee.lt (fin false 0 (pos 0)) x) }
-    ensures { result ≡ floor_of x }
-{
-    if x < 9007199254740992.0 {
-        std::num::nearest_u64_to_f64(std::num::truncating_f64_to_u64(x))
-    } else {
-        x
-    }
-}
-
-// x above zero, rounded up.
-fn ceil_positive(x: f64) -> f64
-    requires { T (Ieee.lt (fin false 0 (pos 0)) x) }
-    ensures { result ≡ ceil_of x }
-{
-    if x < 9007199254740992.0 {
-        let t = std::num::truncating_f64_to_u64(x);
-        let f = std::num::nearest_u64_to_f64(t);
-        if f < x {
-            std::num::nearest_u64_to_f64(t + 1)
-        } else {
-            f
-        }
-    } else {
-        x
-    }
-}
-
 // The whole number nearest to x, of two the one further from zero: 2.5 gives 3, -0.5 gives -1 and
 // -0.25 gives -0.0.
 pub fn round(x: f64) -> f64
@@ -58,30 +28,6 @@ pub fn round(x: f64) -> f64
         half_up(x)
     } else if x < 0.0 {
         -half_up(-x)
-    } else {
-        x
-    }
-}
-
-pub fn floor(x: f64) -> f64
-    ensures { result ≡ floor_of x }
-{
-    if x > 0.0 {
-        floor_positive(x)
-    } else if x < 0.0 {
-        -ceil_positive(-x)
-    } else {
-        x
-    }
-}
-
-pub fn ceil(x: f64) -> f64
-    ensures { result ≡ ceil_of x }
-{
-    if x > 0.0 {
-        ceil_positive(x)
-    } else if x < 0.0 {
-        -floor_positive(-x)
     } else {
         x
     }

@@ -93,7 +93,8 @@ pub fn sin_cos(t: f64) -> SinCos
     if t > 1000.0 || t < -1000.0 {
         SinCos { sin: 0.0, cos: 0.0 }
     } else {
-        // q stays a real: a whole number would lose the sign of a zero in q * H.
+        // q stays a real: a whole number would lose the sign of a zero in q * H. Not `f64::round`: by it
+        // whole surfaces took 1.08 times the Rust's time, and by ours they take 0.89 (harness/bench).
         let q = round(t / FRAC_PI_2);
         reduced(q, t - q * FRAC_PI_2)
     }

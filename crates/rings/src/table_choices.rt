@@ -7,7 +7,6 @@ ghost use Rattle.tables.specs.Rows.{rows};
 ghost use Rattle.rings.specs.Choices.{least_u, greatest_u, strip_shift, straddles, first_past, first_open_past};
 
 use numbers::order::{max, min};
-use numbers::rounding::floor;
 use tables::corners::Corner;
 
 pub fn least(t: &[Corner]) -> f64
@@ -47,7 +46,7 @@ pub fn strip_shift(t: &[Corner], lo: f64, period: f64) -> f64
     ensures value { result ≡ strip_shift period lo (us (rows t.now)) }
     ensures leaves_turn { LeavesTurn (least_of (us (rows t.now))) lo period result }
 {
-    floor((least(t) - lo) / period) * period
+    ((least(t) - lo) / period).floor() * period
 }
 
 pub fn straddles(t: &[Corner], lo: f64, period: f64) -> bool

@@ -3,7 +3,6 @@ ghost use Rattle.std.specs.Prelude.{◌≡◌};
 ghost use Rattle.surfaces.specs.Segments.{sag_angle, angle_step_of, segments_of};
 
 use numbers::order::{max, min};
-use numbers::rounding::ceil;
 use numbers::trig::acos;
 use std::num::saturating_f64_to_usize;
 
@@ -38,12 +37,12 @@ impl Resolved {
     }
 
     // Segments that sweep `total` radians on the radius r.
-    #[tactic(auto, using(numbers::proofs::order::Laws::size_is), unfolding(crate::specs::Segments::segments_of))]
+    #[tactic(auto, using(numbers::proofs::order::Laws::size_is, numbers::proofs::rounding::Laws::ceil_is), unfolding(crate::specs::Segments::segments_of))]
     pub fn segments_for_arc(self, r: f64, total: f64) -> usize
         ensures { result ≡ segments_of self r total }
     {
         let step = self.angle_step_for_radius(r);
-        let segments = saturating_f64_to_usize(ceil(total.abs() / step));
+        let segments = saturating_f64_to_usize((total.abs() / step).ceil());
         segments.max(self.min_edge_segments).max(1)
     }
 }
