@@ -8,7 +8,8 @@ ghost use Rattle.loops.specs.Wrap.{net_wrap, wrap_every};
 use super::wrap::turns_counted;
 use tables::corners::Corner;
 
-// The row after row i of n, round the loop.
+// The row after row i of n, round the loop. By index, since `windows(2)` leaves out the last step, back to
+// the first row.
 fn next(n: usize, i: usize) -> usize
     requires { i < n }
     ensures { result ≡ (i + 1) % n }

@@ -1,14 +1,20 @@
 -- The decisions on u, as loops and branches make them.
 use Prim.Native.Nat.{ℕ, zero, suc, ◌+◌, ◌-◌, ◌≤◌, ◌<◌}
-use mathlib.Core.Path.{◌≡◌, refl, sym, ap, ◌∙◌}
+use mathlib.Core.Path.{◌≡◌, refl, sym, ap, ◌∙◌, subst}
 use mathlib.Core.Bool.{Bool, true, false, cond, not, ◌||◌}
 use mathlib.Core.List.{List, [], ◌∷◌, map, drop_last}
 use native.Mathlib.Numerals.{add-one}
 use native.Mathlib.Omega.{arith}
+use lib.Dec.{ltb}
 use borrow.Author.Tests.{lt-ltb, le-ltb}
 use lib.Ieee.{Float, nan, lt, le}
-use lib.ListN.{length, get_or, take, drop, length-map, length-drop}
-use lib.Seq.{drop-cons}
+use lib.ListN.{length, get_or, take, drop, length-map}
+use Rattle.std.specs.Prelude.{Option, Some, None}
+use Rattle.std.specs.Option.{unwrap_or}
+use Rattle.std.specs.List.{position_or_len, list_any}
+use Rattle.std.specs.Slice.Iter.{windows_size, windows_rest, windows_steps}
+use Rattle.std.proofs.lemmas.Iterator.{YieldsList}
+use Rattle.std.proofs.lemmas.Iterator.Splits.{YieldsList-from_shown_while}
 use Rattle.numbers.specs.Constants.{10^-12}
 use Rattle.numbers.specs.Rounded.{◌⊕◌, ◌⊖◌}
 use Rattle.loops.specs.Span.{least_of, greatest_of}
@@ -35,45 +41,35 @@ module _ (us : List Float) where
     unfolding straddles
     below-begin t low is_low = sym (rw (← is_high, t, ← is_low))
 
--- ---- searching: the first of n numbers that passes
-
-module _ (p : ℕ → Bool) (n : ℕ) where
-  pub record Seeking (i : ℕ) : Type 0 where
-    pub far : i ≤ n
-    pub is : first_from p 0 n ≡ first_from p i (n - i)
-
-  pub seeking : Seeking 0
-  seeking = let q : n - 0 ≡ n = omega arith in record { far = omega arith; is = rw q }
-
-  step : (i : ℕ) (t : Bool) → i < n → p i ≡ t → first_from p i (n - i) ≡ cond t i (first_from p (i + 1) (n - (i + 1)))
-  unfolding first_from
-  step i t h e = let q : n - i ≡ suc (n - (i + 1)) = omega arith in rw (q, add-one) (rw e)
-
-  pub seeking_turn : (i : ℕ) → Seeking i → i < n → p i ≡ false → Seeking (i + 1)
-  seeking_turn i s h e = record { far = omega arith; is = s.is ∙ step i false h e }
-
-  pub seeking_found : (i : ℕ) → Seeking i → i < n → p i ≡ true → first_from p 0 n ≡ i
-  seeking_found i s h e = s.is ∙ step i true h e
-
-  pub seeking_end : (i : ℕ) → Seeking i → n ≤ i → first_from p 0 n ≡ n
-  unfolding first_from
-  seeking_end i s h = let q : n - i ≡ 0 = omega arith in let e : i ≡ n = omega (arith, s.far) in s.is ∙ rw (q, e)
-
 -- ---- the first point at or past the cut
 
-abbrev pub at_or_past : Float → List Float → ℕ → Bool
-at_or_past cut us i = le cut (get_or us i nan)
+-- from point k on, behind which stand the points xs
+first_is : (test : Float → Bool) (us xs : List Float) (k : ℕ) → ((i : ℕ) → get_or us (k + i) nan ≡ get_or xs i nan)
+    → first_from (λ i. test (get_or us i nan)) k (length xs) ≡ k + position_or_len test xs
+unfolding first_from
+first_is test us [] k h = omega arith
+first_is test us (x ∷ xs) k h =
+    let here : k + 0 ≡ k = omega arith in
+    let e : get_or us k nan ≡ x = ap (λ (i : ℕ). get_or us i nan) (sym here) ∙ h 0 in
+    let further = first_is test us xs (suc k) (λ i. let z : suc k + i ≡ k + suc i = omega arith in ap (λ (j : ℕ). get_or us j nan) z ∙ h (suc i)) in
+    rw (e, further) (go (test x))
+  where
+    go : (b : Bool) → cond b k (suc k + position_or_len test xs) ≡ k + cond (not b) (1 + position_or_len test xs) 0
+    go true = omega arith
+    go false = omega arith
+
+or_zero : (b : Bool) (k : ℕ) → unwrap_or (cond b (Some k) None) 0 ≡ cond b k 0
+or_zero true k = refl
+or_zero false k = refl
 
 module _ (cut : Float) (us : List Float) where
-  pub past_found : (i : ℕ) → Seeking (at_or_past cut us) (length us) i → i < length us → at_or_past cut us i ≡ true → i ≡ first_past cut us
+  -- what `position` answers
+  pub past_first : (place : Option ℕ) → place ≡ cond (ltb (position_or_len (le cut) us) (length us)) (Some (position_or_len (le cut) us)) None
+      → unwrap_or place 0 ≡ first_past cut us
   unfolding first_past
-  past_found i s h e = sym (rw (seeking_found (at_or_past cut us) (length us) i s h e, lt-ltb i (length us) h))
-
-  pub past-none : (i : ℕ) → Seeking (at_or_past cut us) (length us) i → length us ≤ i → 0 ≡ first_past cut us
-  unfolding first_past
-  past-none i s h =
-      let k : length us ≤ length us = omega arith in
-      sym (rw (seeking_end (at_or_past cut us) (length us) i s h, le-ltb (length us) (length us) k))
+  past_first place e =
+      let k : first_from (λ i. le cut (get_or us i nan)) 0 (length us) ≡ position_or_len (le cut) us = first_is (le cut) us us 0 (λ i. let z : 0 + i ≡ i = omega arith in rw z) ∙ omega arith in
+      rw (e, k) (or_zero (ltb (position_or_len (le cut) us) (length us)) (position_or_len (le cut) us))
 
   -- its open points alone
   pub open_none : length us ≡ 0 → 0 ≡ first_open_past cut us
@@ -145,49 +141,40 @@ module _ (period cut : Float) (us : List Float) where
   unfolding nearest first_least
   nearest-none h = let e : length offsets ≡ 0 = let l = length_offsets in omega arith in sym (ap (first_least offsets) e)
 
-  -- ---- a constant step on the seam
+-- ---- a constant step on the seam
 
-  pub record Standing (i : ℕ) : Type 0 where
-    pub far : i ≤ length us - 1
-    pub is : stands_at_the_cut period cut us ≡ stands_at_the_cut period cut (drop i us)
+-- the points that follow each other
+abbrev pub pairs_of : List Float → List (List Float)
+pairs_of [] = []
+pairs_of (a ∷ []) = []
+pairs_of (a ∷ b ∷ us) = (a ∷ b ∷ []) ∷ pairs_of (b ∷ us)
 
-  pub standing : Standing 0
-  standing = record { far = omega arith; is = refl }
+no_pairs : (us : List Float) → length us < 2 → length (pairs_of us) ≡ 0
+no_pairs [] h = refl
+no_pairs (a ∷ []) h = refl
+no_pairs (a ∷ b ∷ us) h = absurd (omega arith)
 
-  two_at : (i : ℕ) → i + 1 < length us → drop i us ≡ get_or us i nan ∷ get_or us (i + 1) nan ∷ drop (i + 2) us
-  two_at i h =
-      let k : i < length us = omega arith in
-      let e : suc i ≡ i + 1 = omega arith in
-      let d : suc (i + 1) ≡ i + 2 = omega arith in
-      drop-cons us i nan k ∙ ap (λ (j : ℕ). get_or us i nan ∷ drop j us) e
-      ∙ ap (λ (l : List Float). get_or us i nan ∷ l) (drop-cons us (i + 1) nan h ∙ ap (λ (j : ℕ). get_or us (i + 1) nan ∷ drop j us) d)
+more_pairs : (us : List Float) → 2 ≤ length us → pairs_of us ≡ take 2 us ∷ pairs_of (drop 1 us)
+more_pairs [] h = absurd (omega arith)
+more_pairs (a ∷ []) h = absurd (omega arith)
+more_pairs (a ∷ b ∷ us) h = refl
 
-  one_at : (i : ℕ) → i + 1 < length us → drop (i + 1) us ≡ get_or us (i + 1) nan ∷ drop (i + 2) us
-  one_at i h = let d : suc (i + 1) ≡ i + 2 = omega arith in drop-cons us (i + 1) nan h ∙ ap (λ (j : ℕ). get_or us (i + 1) nan ∷ drop j us) d
+pub windows_road : {s : _} (us : List Float) → windows_size s ≡ 2 → windows_rest s ≡ us → YieldsList windows_steps (λ w. w.now) s (pairs_of us)
+windows_road {s} us two e =
+    subst (λ (xs : List Float). YieldsList windows_steps (λ w. w.now) s (pairs_of xs)) e
+    (YieldsList-from_shown_while windows_steps (λ w. w.now) (λ t. pairs_of (windows_rest t)) (λ t. windows_size t ≡ 2)
+    (λ s t size step. no_pairs (windows_rest s) (omega (arith, step.1.0)))
+    (λ s w t size step. (step.0 ∙ size, rw step.1.2 (rw (step.1.1, size) (more_pairs (windows_rest s) (omega (arith, step.1.0)))))) s two)
 
-  stands_step : (i : ℕ) (t : Bool) → i + 1 < length us → t ≡ step_stands period cut (get_or us i nan) (get_or us (i + 1) nan)
-      → stands_at_the_cut period cut (drop i us) ≡ t || stands_at_the_cut period cut (drop (i + 1) us)
+module _ (period cut : Float) where
+  abbrev pub pair_stands : List Float → Bool
+  pair_stands w = step_stands period cut (get_or w 0 nan) (get_or w 1 nan)
+
+  pub any_stands : (us : List Float) → list_any pair_stands (pairs_of us) ≡ stands_at_the_cut period cut us
   unfolding stands_at_the_cut
-  stands_step i t h e =
-      ap (stands_at_the_cut period cut) (two_at i h)
-      ∙ (λ k. sym e k || stands_at_the_cut period cut (sym (one_at i h) k))
-
-  pub standing_found : (i : ℕ) (t : Bool) → Standing i → i + 1 < length us → t ≡ step_stands period cut (get_or us i nan) (get_or us (i + 1) nan) → t ≡ true
-      → true ≡ stands_at_the_cut period cut us
-  standing_found i t s h e f = sym (s.is ∙ stands_step i t h e ∙ rw f)
-
-  pub standing_turn : (i : ℕ) (t : Bool) → Standing i → i + 1 < length us → t ≡ step_stands period cut (get_or us i nan) (get_or us (i + 1) nan) → t ≡ false
-      → Standing (i + 1)
-  standing_turn i t s h e f = record { far = omega arith; is = s.is ∙ stands_step i t h e ∙ rw f }
-
-  stands_short : (us : List Float) → length us ≤ 1 → stands_at_the_cut period cut us ≡ false
-  unfolding stands_at_the_cut
-  stands_short [] h = refl
-  stands_short (u ∷ []) h = refl
-  stands_short (u ∷ v ∷ us) h = absurd (omega arith)
-
-  pub standing_end : (i : ℕ) → Standing i → length us ≤ i + 1 → false ≡ stands_at_the_cut period cut us
-  standing_end i s h = sym (s.is ∙ stands_short (drop i us) (let l = length-drop i us in omega arith))
+  any_stands [] = refl
+  any_stands (a ∷ []) = refl
+  any_stands (a ∷ b ∷ us) = ap (λ (t : Bool). step_stands period cut a b || t) (any_stands (b ∷ us))
 
 -- ---- whether two rings serve
 

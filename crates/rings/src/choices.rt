@@ -3,6 +3,7 @@ ghost use Rattle.std.specs.Prelude.{◌≡◌, map, get_or};
 ghost use Rattle.std.specs.Float.{nan};
 ghost use Rattle.rings.specs.Choices.{first_of, begins_backward, offset, nearest, on_seam, step_stands, stands_at_the_cut, serve};
 
+use numbers::rounding::round;
 use tables::ring_point::RingPoint;
 
 // The u of point k, and a NaN past the end.
@@ -32,12 +33,13 @@ pub fn begins_backward<T: RingPoint>(ring: &[T]) -> bool
 }
 
 // How far u lies from the cut in periods, whole ones left out.
-#[tactic(auto, using(numbers::proofs::order::Laws::size_is, numbers::proofs::rounding::Laws::round_is))]
+#[tactic(auto, using(numbers::proofs::order::Laws::size_is))]
 fn offset(u: f64, cut: f64, period: f64) -> f64
     ensures { result ≡ offset period cut u }
 {
     let x = (u - cut) / period;
-    (x - x.round()).abs()
+    // Not `f64::round`: by it a band of two rings of 256 points took 1.03 times as long (harness/bench).
+    (x - round(x)).abs()
 }
 
 // Of the open points the first of those nearest the cut.
@@ -49,8 +51,8 @@ pub fn nearest<T: RingPoint>(ring: &[T], cut: f64, period: f64) -> usize
     }
     let mut best = 0;
     let mut low = offset(ring[0].u(), cut, period);
-    for i in 0..ring.len() - 1 {
-        let x = offset(ring[i].u(), cut, period);
+    for (i, point) in ring[..ring.len() - 1].iter().enumerate() {
+        let x = offset(point.u(), cut, period);
         if x < low {
             low = x;
             best = i;
@@ -83,12 +85,7 @@ fn step_stands(a: f64, b: f64, cut: f64, period: f64) -> bool
 pub fn stands_at_the_cut(u: &[f64], cut: f64, period: f64) -> bool
     ensures { result ≡ stands_at_the_cut period cut u.now }
 {
-    for i in 0..u.len().saturating_sub(1) {
-        if step_stands(u[i], u[i + 1], cut, period) {
-            return true;
-        }
-    }
-    false
+    u.windows(2).any(|w| step_stands(w[0], w[1], cut, period))
 }
 
 // Whether the two rings, of which the first is at the cut, neither begin backward nor leave such a

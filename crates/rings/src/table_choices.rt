@@ -62,12 +62,7 @@ pub fn straddles(t: &[Corner], lo: f64, period: f64) -> bool
 fn first_past(t: &[Corner], cut: f64) -> usize
     ensures { result ≡ first_past cut (us (rows t.now)) }
 {
-    for (i, c) in t.iter().enumerate() {
-        if c.u >= cut {
-            return i;
-        }
-    }
-    0
+    t.iter().position(|c| c.u >= cut).unwrap_or(0)
 }
 
 // Of the open points: the last row, which repeats the first, is set aside.

@@ -1,8 +1,9 @@
 -- Two rings put to a start, on copies of their u; the counts are those that the code has in hand.
-use Prim.Native.Nat.{ℕ, ◌+◌, ◌-◌, ◌≤◌, ◌<◌}
+use Prim.Native.Nat.{ℕ, suc, ◌+◌, ◌-◌, ◌≤◌, ◌<◌}
 use mathlib.Core.Path.{◌≡◌, refl, sym, ap, ◌∙◌}
 use mathlib.Core.Bool.{Bool, true, false, cond}
 use mathlib.Core.List.{List, ◌++◌, map, append_assoc}
+use native.Mathlib.Numerals.{add-one}
 use native.Mathlib.Omega.{arith}
 use borrow.Author.Tests.{lt-ltb, le-ltb}
 use lib.Dec.{ltb}
@@ -24,7 +25,7 @@ use Rattle.rings.specs.Starts.{first_for, later_for, later_by, serves, first_ser
 use Rattle.rings.specs.Turns.{begin_ring_at}
 use Rattle.rings.proofs.ReadRows.{us_of_reals}
 use Rattle.rings.proofs.ByU.{first_by_u, us_later, length-first_for, length-later_for}
-use Rattle.rings.proofs.Decisions.{Seeking, seeking, seeking_turn, seeking_found, seeking_end, serve_backward}
+use Rattle.rings.proofs.Decisions.{serve_backward}
 use Rattle.starts.specs.Search as Answer
 use Rattle.starts.specs.Search.{not_searched, search_within}
 
@@ -101,6 +102,30 @@ module _ (period : Float) (first later : Corners Vec3) (k n : ℕ) (n_is : n ≡
       pub trial_both : (t : Bool) → t ≡ serve period (take (n - 0) (drop 0 d₂)) (take (n + m - n) (drop n d₂)) → t ≡ serves period first later k
       unfolding serves
       trial_both t e = e ∙ (λ i. serve period (begun_kept i) (later_read i))
+
+-- ---- searching: the first of n numbers that passes
+
+module _ (p : ℕ → Bool) (n : ℕ) where
+  pub record Seeking (i : ℕ) : Type 0 where
+    pub far : i ≤ n
+    pub is : first_from p 0 n ≡ first_from p i (n - i)
+
+  pub seeking : Seeking 0
+  seeking = let q : n - 0 ≡ n = omega arith in record { far = omega arith; is = rw q }
+
+  step : (i : ℕ) (t : Bool) → i < n → p i ≡ t → first_from p i (n - i) ≡ cond t i (first_from p (i + 1) (n - (i + 1)))
+  unfolding first_from
+  step i t h e = let q : n - i ≡ suc (n - (i + 1)) = omega arith in rw (q, add-one) (rw e)
+
+  pub seeking_turn : (i : ℕ) → Seeking i → i < n → p i ≡ false → Seeking (i + 1)
+  seeking_turn i s h e = record { far = omega arith; is = s.is ∙ step i false h e }
+
+  pub seeking_found : (i : ℕ) → Seeking i → i < n → p i ≡ true → first_from p 0 n ≡ i
+  seeking_found i s h e = s.is ∙ step i true h e
+
+  pub seeking_end : (i : ℕ) → Seeking i → n ≤ i → first_from p 0 n ≡ n
+  unfolding first_from
+  seeking_end i s h = let q : n - i ≡ 0 = omega arith in let e : i ≡ n = omega (arith, s.far) in s.is ∙ rw (q, e)
 
 -- ---- the search: after k turns no start before k serves, and the trial has its length
 

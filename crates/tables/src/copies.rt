@@ -13,7 +13,8 @@ pub fn us_into(dst: &mut [f64], t: &[Corner])
     if dst.len() < t.len() {
         return;
     }
-    for i in 0..t.len() {
-        dst[i] = t[i].u;
+    // Not `dst.iter_mut().zip(t)`: after an adapter of `iter_mut` nothing is known of what was written.
+    for (i, c) in t.iter().enumerate() {
+        dst[i] = c.u;
     }
 }

@@ -1,19 +1,10 @@
-use Rattle.std.proofs.Common.{arith, ap, ◌∙◌}
-use lib.Ieee.{le}
-use Rattle.tables.proofs.Rows.{length-us, u-at-place}
-use Rattle.rings.proofs.Decisions.{seeking, seeking_turn, past_found, past-none}
+use Rattle.std.proofs.Common.{rules, ◌∙◌}
+use borrow.Author.Tests.{tests}
+use Rattle.std.proofs.lemmas.Iterator.{YieldsList-from_slice}
+use Rattle.std.proofs.lemmas.Iterator.Search.{position_from_yields_List}
+use Rattle.rings.proofs.ReadRows.{Past, past_rows}
 use Rattle.rings.proofs.table_choices.first_past.Goals as goal
 
-pub loop-i-init : goal.loop-i-init
-loop-i-init c = seeking _ _
-
-pub returns-then-c-cut : goal.returns-then-c-cut
-returns-then-c-cut c = past_found _ _ _ c.loop-i.invariant (omega (arith, length-us c.args.t.now))
-    (ap (le c.args.cut) (u-at-place _ _ c.loop-i-test.true) ∙ c.if-c-cut.true)
-
-pub loop-i-preserved : goal.loop-i-preserved
-loop-i-preserved c = seeking_turn _ _ _ c.loop-i.invariant (omega (arith, length-us c.args.t.now))
-    (ap (le c.args.cut) (u-at-place _ _ c.loop-i-test.true) ∙ c.if-c-cut.false)
-
 pub returns : goal.returns
-returns c = past-none _ _ _ c.loop-i.invariant (omega (arith, length-us c.args.t.now))
+returns c = c.unwrap_or.ensures
+    ∙ past_rows _ _ _ (position_from_yields_List (Past c.args.cut) _ _ c.position.result c.position.ensures.ran (YieldsList-from_slice c.args.t.now (search rules)) (λ x b q k. search (rules, tests)))
