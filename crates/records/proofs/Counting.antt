@@ -1,17 +1,17 @@
 -- What the code finds of the counts of a face record: the total of all points, and the refusals 3 to 6.
-use mathlib.Core.Path.{◌≡◌, refl, sym, ap, ◌∙◌}
+use mathlib.Core.Path.{◌≡◌, refl, sym, ap, ◌∙◌, subst}
 use mathlib.Core.Bool.{Bool, true, false, cond}
 use mathlib.Core.List.{List}
 use Prim.Native.Nat.{ℕ, suc, ◌+◌, ◌*◌, ◌≤◌, ◌<◌}
 use native.Mathlib.Numerals.{add-one}
 use native.Mathlib.Omega.{arith}
 use lib.ListN.{length}
-use borrow.Author.Tests.{lt-ltb, le-ltb, ltb-false, eqb-true, not-false}
+use borrow.Author.Tests.{ltb-false, eqb-true, not-false}
 use Rattle.records.specs.Bytes.{◌<?◌}
 use Rattle.records.specs.Face.{header_size, loops, count, start, points, needed}
-use Rattle.records.specs.declared.limits.Limits.{Limits}
-use Rattle.records.specs.Limits.{min_points}
-use Rattle.records.specs.Refusals.{nowhere, at, first_where, wrong_byte, wrong_header, ends_in_counts, too_few_points, too_many_points, wrong_length}
+use Rattle.std.specs.Prelude.{Some, None}
+use Rattle.records.specs.FirstLoop.{Decides, FirstLoop}
+use Rattle.records.specs.Refusals.{nowhere, at, first_where, wrong_byte, wrong_header, ends_in_counts, wrong_length}
 use Rattle.records.proofs.Search.{nowhere≢at, when_fails, Seeking, seek_start, seek_turn, seek_found, seek_end}
 
 start_next : (s : List ℕ) (total n k : ℕ) → total ≡ start s k → n ≡ count s k → total + n ≡ start s (k + 1)
@@ -56,60 +56,30 @@ module _ (s : List ℕ) where
   unfolding wrong_length
   all_there e = eqb-true (length s) (needed s) (not-false _ ((when_fails _ (needed s)).0 e))
 
--- ---- 4
+-- ---- 4 and 5: the loops, each asked by its points and by the total up to its end
 
-abbrev pub few_at : List ℕ → ℕ → Bool
-few_at s k = count s k <? min_points
+pub record Walking (says : ℕ → ℕ → Bool → Type 0) (s : List ℕ) (total k : ℕ) : Type 0 where
+  pub adding : Adding s total k
+  pub seeking : (test : ℕ → Bool) → Decides says s test → Seeking test (loops s) k
 
-module _ (s : List ℕ) {k : ℕ} (w : Seeking (few_at s) (loops s) k) where
-  pub few_found : {n : ℕ} → k < loops s → n ≡ count s k → n < min_points → at k ≡ too_few_points s
-  unfolding too_few_points
-  few_found h e l = seek_found w h (lt-ltb (count s k) min_points (omega arith))
+module _ {says : ℕ → ℕ → Bool → Type 0} {s : List ℕ} where
+  pub walk_start : Walking says s 0 0
+  walk_start = record { adding = add_start; seeking = λ test d. seek_start }
 
-  pub few_turn : {n : ℕ} → k < loops s → n ≡ count s k → min_points ≤ n → Seeking (few_at s) (loops s) (k + 1)
-  few_turn h e l = seek_turn w h (le-ltb (count s k) min_points (omega arith))
+  module _ {total n k : ℕ} {refused : Bool} (w : Walking says s total k) (h : k < loops s) (e : n ≡ count s k) (c : says n (total + n) refused) where
+    at_loop : says (count s k) (start s (suc k)) refused
+    at_loop =
+        let all : total + n ≡ start s (suc k) = start_next s total n k w.adding.is e ∙ ap (start s) (add-one k) in
+        subst (λ (m : ℕ). says m (start s (suc k)) refused) e (subst (λ (m : ℕ). says n m refused) all c)
 
-  pub few_end : loops s ≤ k → nowhere ≡ too_few_points s
-  unfolding too_few_points
-  few_end h = seek_end w h
+    pub walk_found : refused ≡ true → FirstLoop says s (Some k)
+    walk_found t = λ test d. seek_found (w.seeking test d) h (sym (d k refused h at_loop) ∙ t)
 
--- ---- 5
+    pub walk_turn : n < 65536 → refused ≡ false → Walking says s (total + n) (k + 1)
+    walk_turn b f = record { adding = add_turn w.adding h e b; seeking = λ test d. seek_turn (w.seeking test d) h (sym (d k refused h at_loop) ∙ f) }
 
-abbrev pub many_at : Limits → List ℕ → ℕ → Bool
-many_at L s k = L.points <? start s (suc k)
-
--- `total` is that of the loops before k, and it has not passed the limit; a count has two bytes, so it fits whatever the limit is
-pub record Totalling (L : Limits) (s : List ℕ) (total k : ℕ) : Type 0 where
-  pub is : total ≡ start s k
-  pub small : total ≤ 65535 * k
-  pub seeking : Seeking (many_at L s) (loops s) k
-
-pub total_start : {L : Limits} {s : List ℕ} → Totalling L s 0 0
-unfolding start
-total_start = record { is = refl; small = omega arith; seeking = seek_start }
-
-module _ {L : Limits} {s : List ℕ} {total k : ℕ} (w : Totalling L s total k) where
-  passed : {n : ℕ} → n ≡ count s k → total + n ≡ start s (suc k)
-  passed {n} e = start_next s total n k w.is e ∙ ap (start s) (add-one k)
-
-  pub total_found : {n : ℕ} → k < loops s → n ≡ count s k → L.points < total + n → at k ≡ too_many_points L s
-  unfolding too_many_points
-  total_found h e l =
-      let q = passed e in
-      seek_found w.seeking h (lt-ltb L.points (start s (suc k)) (omega arith))
-
-  pub total_turn : {n : ℕ} → k < loops s → n ≡ count s k → n < 65536 → total + n ≤ L.points → Totalling L s (total + n) (k + 1)
-  total_turn {n} h e b l =
-      let q = passed e in
-      record {
-        is = start_next s total n k w.is e;
-        small = let z = w.small in omega arith;
-        seeking = seek_turn w.seeking h (le-ltb L.points (start s (suc k)) (omega arith));
-      }
-
-  pub total_end : loops s ≤ k → nowhere ≡ too_many_points L s
-  unfolding too_many_points
-  total_end h = seek_end w.seeking h
+  pub walk_end : {total k : ℕ} → Walking says s total k → loops s ≤ k → FirstLoop says s None
+  walk_end w h = λ test d. seek_end (w.seeking test d) h
 
 -- what is known of a record that a condition has let pass
 pub ruleset let_pass = (header_there, counts_there_lem, all_there)

@@ -10,3 +10,4 @@ pub mod Ranges
 pub mod Lent
 pub mod Answers
 pub mod Values
+pub mod FirstLoop

@@ -84,6 +84,7 @@ fn v_range(kind: u8) -> Range
     up_to(if kind <= CONE { 1000000.0 } else { 64.0 })
 }
 
+// `kind` is the record's byte, and every byte is answered: an enum would ask more of callers.
 #[tactic(auto, unfolding(crate::specs::Limits::head_range))]
 pub fn head_range(kind: u8, i: usize) -> Range
     ensures { range_of result ≡ head_range kind i }
@@ -103,7 +104,7 @@ pub fn head_range(kind: u8, i: usize) -> Range
     }
 }
 
-// Parameter real j, from 0: u and v in turn.
+// Parameter real j, from 0: u and v in turn. `kind` is the record's byte, as for `head_range`.
 #[tactic(auto, unfolding(crate::specs::Limits::uv_range))]
 pub fn uv_range(kind: u8, j: usize) -> Range
     ensures { range_of result ≡ uv_range kind j }

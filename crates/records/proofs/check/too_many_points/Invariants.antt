@@ -1,8 +1,0 @@
-use mathlib.Core.Path.{◌≡◌}
-use Prim.Native.Nat.{◌<◌}
-use Rattle.records.specs.Face.{loops}
-use Rattle.records.proofs.Counting as counting
-use Rattle.records.proofs.check.too_many_points.Given as goal
-
-abbrev pub invariant-loop-k : goal.invariant-loop-k
-invariant-loop-k l = counting.Totalling l.limits l.face l.total l.k × ((l.k-end ≡ loops l.face) × (l.k-end < 256))
