@@ -93,7 +93,8 @@ fn put_boundary(patch: Patch, su: usize, sv: usize, t: &mut [Corner])
     let mut vs = [0.0; 257];
     write_rungs(patch, Axis::U, &mut us);
     write_rungs(patch, Axis::V, &mut vs);
-    // `part` and not a range, which would have to be shown to lie within the arrays.
+    // `part` promises something for every count. A range asks for one within the array, which would have
+    // to be shown for each of the two.
     put_sides(patch, part(&us, 0, su + 1), part(&vs, 0, sv + 1), t);
 }
 

@@ -11,6 +11,7 @@ use surfaces::surface::Surface;
 use tables::slices::at;
 
 // The kind, with its size and its second one.
+// `kind` is the record's byte, and every byte is answered: an enum would ask more of callers.
 #[tactic(auto, unfolding(call::specs::Face::surface_of))]
 pub fn surface_of(kind: u8, a: f64, b: f64) -> Surface
     ensures { result ≡ surface_of kind a b }

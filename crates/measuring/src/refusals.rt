@@ -96,7 +96,7 @@ pub fn many_rings(wraps: &[i32]) -> Option<usize>
     (n > 2).then_some(n)
 }
 
-// 11
+// 11. `kind` is the record's byte, and every byte is answered: an enum would ask more of callers.
 #[tactic(auto, using(records::proofs::Search::when_some), unfolding(call::specs::Later::open_kind))]
 pub fn open_surface(kind: u8, loops: usize) -> Option<usize>
     ensures { place_of result ≡ open_kind kind loops }
