@@ -3,9 +3,6 @@ use Rattle.results.proofs.Corners as corners
 use Rattle.results.proofs.Rows as rows
 use Rattle.results.proofs.put_positions.Goals as goal
 
-pub loop-i-init : goal.loop-i-init
-loop-i-init c = (omega arith, rows.corners_start corners.xyz_wide)
-
 pub loop-i-preserved : goal.loop-i-preserved
 loop-i-preserved c = (
   omega arith,

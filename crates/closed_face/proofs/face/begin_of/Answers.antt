@@ -6,10 +6,6 @@ use Rattle.tables.proofs.LoopLaws.{loops_counted}
 use Rattle.closed_face.proofs.Loops.{beginning, at_loop, past_all, pass_room, pass_loop}
 use Rattle.closed_face.proofs.face.begin_of.Goals as goal
 
-pub loop-i-init : goal.loop-i-init
-loop-i-init c =
-    rw (c.into_iter-i-iterator.ensures.into_iter_gives, c.enumerate-i-items.ensures.count, c.enumerate-i-items.ensures.source) (beginning c.args.loops c.args.k)
-
 pub loop-i-init-derived : goal.loop-i-init-derived
 loop-i-init-derived c = let many = loops_counted c.args.loops in search rules
 

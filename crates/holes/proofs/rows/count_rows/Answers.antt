@@ -8,9 +8,6 @@ use Rattle.holes.specs.Others.{is_ring}
 use Rattle.holes.proofs.Later.{later, later-ring, later-hole, later-none, all-fit}
 use Rattle.holes.proofs.rows.count_rows.Goals as goal
 
-pub loop-i-init : goal.loop-i-init
-loop-i-init c = rw (c.into_iter-i-iterator.ensures.into_iter_gives, c.enumerate-i-items.ensures.count, c.enumerate-i-items.ensures.source) (omega arith)
-
 pub loop-i-init-derived : goal.loop-i-init-derived
 loop-i-init-derived c = let many = loops_counted c.args.loops in search rules
 

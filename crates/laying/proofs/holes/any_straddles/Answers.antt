@@ -5,9 +5,6 @@ use Rattle.bands.specs.Rings.{any_straddles}
 use Rattle.laying.proofs.EachHole.{straddles-first, straddles-none}
 use Rattle.laying.proofs.holes.any_straddles.Goals as goal
 
-pub loop-hole-init : goal.loop-hole-init
-loop-hole-init c = ap (λ holes. any_straddles c.args.period c.args.lo (loops_in holes)) c.into_iter-hole-iterator.ensures.into_iter_gives
-
 pub returns-then-straddles : goal.returns-then-straddles
 returns-then-straddles c =
     let later = any_straddles c.args.period c.args.lo (loops_in c.next.new.self) in

@@ -2,9 +2,6 @@ use Rattle.std.proofs.Common.{rules}
 use Rattle.laying.proofs.EachHole.{holes_moving, holes_moving_turn, holes_moving_end}
 use Rattle.laying.proofs.holes.onto_all.Goals as goal
 
-pub loop-points-init : goal.loop-points-init
-loop-points-init c = holes_moving _ _ _ _
-
 pub loop-points-preserved : goal.loop-points-preserved
 loop-points-preserved c = holes_moving_turn _ _ _ _ _ _ _ _ _ c.loop-points.invariant c.loop-points-test.true c.piece_end-to.ensures c.onto.ensures
     (search rules)

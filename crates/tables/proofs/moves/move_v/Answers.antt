@@ -5,9 +5,6 @@ use Rattle.tables.specs.Rows.{rows}
 use Rattle.tables.proofs.Rows.{absent, put-v, rows-each-v}
 use Rattle.tables.proofs.moves.move_v.Goals as goal
 
-pub loop-c-init : goal.loop-c-init
-loop-c-init c = mapping _ _
-
 pub loop-c-preserved : goal.loop-c-preserved
 loop-c-preserved c = mapping_turn _ _ absent _ _ _ c.loop-c.invariant (omega arith)
     (put-v (moved_by c.args.m) (get_or c.loop-c.c-items c.loop-c.c-index absent) _ c.moved-c.ensures)
