@@ -72,7 +72,8 @@ fn next_face(rt: &HostRuntime, face: &mut [u8], res: &mut [u8]) -> io::Result<()
     replay_face(rt, lent, length, face, res)
 }
 
-// The turns are counted because a loop has to end, and nothing says that the input does.
+// The turns are counted because a loop has to end, and nothing says that the input does: a `loop` needs a
+// measure that falls, and a `for` over `iter::repeat` owes that it ends, which is false.
 fn replay_all(rt: &HostRuntime, face: &mut [u8], res: &mut [u8]) -> io::Result<()> {
     for _ in 0..u64::MAX {
         next_face(rt, face, res)?;
