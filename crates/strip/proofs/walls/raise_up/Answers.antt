@@ -4,11 +4,6 @@ use Rattle.surfaces.proofs.knots.Walk.{left-few}
 use Rattle.strip.proofs.walls.Raising.{raising, raising_full, raising_end, raising_turn}
 use Rattle.strip.proofs.walls.raise_up.Goals as goal
 
-pub loop-k-init : goal.loop-k-init
-loop-k-init c =
-    let begin = c.into_iter-k-iterator.ensures.into_iter_gives in
-    raising _ _ _ _ (ap (λ e. e.count) begin ∙ c.enumerate-k-items.ensures.count) (ap (λ e. kept_left e.iter) begin ∙ ap kept_left c.enumerate-k-items.ensures.source)
-
 pub loop-k-init-derived : goal.loop-k-init-derived
 loop-k-init-derived c =
     let few = left-few c.args.heights in
@@ -24,6 +19,3 @@ pub loop-k-preserved : goal.loop-k-preserved
 loop-k-preserved c =
     let s = c.in-Some.ensures.steps in
     rw (s.1, s.2) (raising_turn _ _ _ _ c.loop-k.invariant (λ e. c.if-k-wall.false (s.1 ∙ e)) s.0 c.point_at-at.ensures)
-
-pub returns : goal.returns
-returns c = raising_end _ _ _ _ c.loop-k.invariant c.in-None.ensures.steps.0.0
