@@ -17,7 +17,8 @@ pub struct Vec2 {
     pub v: f64,
 }
 
-// The layout is C's, as that of the tables of corners that hold positions.
+// The layout is C's, as that of the tables of corners that hold positions; so is a frame's, that the
+// comparison with the Rust can pass one.
 #[repr(C)]
 #[derive(Clone, Copy, PartialEq)]
 pub struct Vec3 {
@@ -26,6 +27,7 @@ pub struct Vec3 {
     pub z: f64,
 }
 
+#[repr(C)]
 #[derive(Clone, Copy)]
 pub struct Frame {
     pub origin: Vec3,

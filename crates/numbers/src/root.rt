@@ -1,6 +1,6 @@
 // The square root: of a whole number, one bit of the root at each call, and from it that of a real,
-// rounded to the nearest with ties to even. Document 01 names this recursion ("Forms in the way": the
-// square root "takes one bit of the root at each call of itself"), so neither `f64::sqrt` nor
+// rounded to the nearest with ties to even. Document 01 names this recursion ("How each place
+// should look": it "takes one bit of the root at each call of itself"), so neither `f64::sqrt` nor
 // `u64::isqrt` stands here.
 ghost use Rattle.std.specs.Prelude.{◌≡◌, ◌*◌, ◌^◌, ◌<◌, ◌≤◌, false, T, pos};
 ghost use Rattle.std.specs.Float.Ieee as Ieee;
@@ -108,9 +108,9 @@ pub fn sqrt(x: f64) -> f64
     ensures { result ≡ sqrt_of x }
 {
     if x > 0.0 {
-        if x < 1.0 / 0.0 { positive(x) } else { x }
+        if x < f64::INFINITY { positive(x) } else { x }
     } else if x < 0.0 {
-        0.0 / 0.0
+        f64::NAN
     } else {
         x
     }

@@ -1,6 +1,5 @@
-// Rounding to the nearest whole number, halves away from zero, for the reduction of an angle and for the
-// point of a ring nearest a cut. `f64::round` means the same and stands elsewhere; `trig::sin_cos` and
-// `rings::choices` say why not there.
+// Rounding to the nearest whole number, halves away from zero, for the reduction of an angle. `f64::round`
+// means the same and stands elsewhere; `trig::sin_cos` says why not there.
 ghost use Rattle.std.specs.Prelude.{◌≡◌, true, false, T, pos};
 ghost use Rattle.std.specs.Float.Ieee as Ieee;
 ghost use Rattle.std.specs.Float.{fin};

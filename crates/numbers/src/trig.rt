@@ -6,16 +6,13 @@ ghost use Rattle.numbers.specs.Constants.{one};
 ghost use Rattle.numbers.specs.Trig.{divisor_of, series_from, quarter_of, reduced_of, sincos_of, tan_of, acos_of};
 
 use super::rounding::round;
+use std::f64::consts::{FRAC_PI_2, PI};
 
 #[derive(Clone, Copy)]
 pub struct SinCos {
     pub sin: f64,
     pub cos: f64,
 }
-
-const FRAC_PI_2: f64 = 1.5707963267948966;
-
-const PI: f64 = 3.141592653589793;
 
 // The series of sin r / r, and that of cos r.
 #[derive(Clone, Copy)]

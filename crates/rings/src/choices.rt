@@ -3,17 +3,16 @@ ghost use Rattle.std.specs.Prelude.{◌≡◌, map, get_or};
 ghost use Rattle.std.specs.Float.{nan};
 ghost use Rattle.rings.specs.Choices.{first_of, begins_backward, offset, nearest, on_seam, step_stands, stands_at_the_cut, serve};
 
-use numbers::rounding::round;
 use tables::ring_point::RingPoint;
 
 // The u of point k, and a NaN past the end.
 pub fn u_at<T: RingPoint>(ring: &[T], k: usize) -> f64
     ensures { result ≡ get_or (map T.u_of ring.now) k nan }
 {
-    if k < ring.len() {
-        return ring[k].u();
+    match ring.get(k) {
+        Some(point) => point.u(),
+        None => f64::NAN,
     }
-    0.0 / 0.0
 }
 
 // Of no points a NaN.
@@ -33,13 +32,12 @@ pub fn begins_backward<T: RingPoint>(ring: &[T]) -> bool
 }
 
 // How far u lies from the cut in periods, whole ones left out.
-#[tactic(auto, using(numbers::proofs::order::Laws::size_is))]
+#[tactic(auto, using(numbers::proofs::order::Laws::size_is, numbers::proofs::rounding::Laws::round_is))]
 fn offset(u: f64, cut: f64, period: f64) -> f64
     ensures { result ≡ offset period cut u }
 {
     let x = (u - cut) / period;
-    // Not `f64::round`: by it a band of two rings of 256 points took 1.03 times as long (harness/bench).
-    (x - round(x)).abs()
+    (x - x.round()).abs()
 }
 
 // Of the open points the first of those nearest the cut.

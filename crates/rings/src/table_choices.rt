@@ -12,7 +12,7 @@ use tables::corners::Corner;
 pub fn least(t: &[Corner]) -> f64
     ensures { result ≡ least_of (us (rows t.now)) }
 {
-    let mut lo = 1.0 / 0.0;
+    let mut lo = f64::INFINITY;
     for c in t {
         lo = min(lo, c.u);
     }
@@ -22,7 +22,7 @@ pub fn least(t: &[Corner]) -> f64
 pub fn greatest(t: &[Corner]) -> f64
     ensures { result ≡ greatest_of (us (rows t.now)) }
 {
-    let mut hi = -1.0 / 0.0;
+    let mut hi = f64::NEG_INFINITY;
     for c in t {
         hi = max(hi, c.u);
     }

@@ -6,10 +6,7 @@ ghost use Rattle.surfaces.specs.Domains.{unbounded, full_turn, u_period, v_perio
 
 use numbers::math::{Frame, Interval, Vec2, Vec3};
 use numbers::trig::{sin_cos, tan};
-
-const TAU: f64 = 6.283185307179586;
-
-const FRAC_PI_2: f64 = 1.5707963267948966;
+use std::f64::consts::{FRAC_PI_2, TAU};
 
 // Stands for an end where a parameter has none: past any model, and with room for exact arithmetic.
 const UNBOUNDED: f64 = 1e12;

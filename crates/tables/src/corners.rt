@@ -28,7 +28,7 @@ pub const ORIGIN: Corner = Corner {
 fn no_corner() -> Corner
     ensures { corner_of result ≡ none }
 {
-    let nan = 0.0 / 0.0;
+    let nan = f64::NAN;
     Corner {
         u: nan,
         v: nan,

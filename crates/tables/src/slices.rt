@@ -5,18 +5,18 @@ ghost use Rattle.std.specs.Float.{nan};
 ghost use Rattle.lists.specs.Parts.{part_of};
 ghost use Rattle.lists.specs.Placed.{placed};
 
-// The element at i, and a NaN past the end: a read that asks nothing. Not `get(i).copied().unwrap_or(..)`,
-// nor `get_mut` in `put`: by those the proofs need longer answers.
+// The element at i, and a NaN past the end: a read that asks nothing.
 pub fn at(s: &[f64], i: usize) -> f64
     ensures { result ≡ get_or s.now i nan }
 {
-    if i < s.len() {
-        return s[i];
+    match s.get(i) {
+        Some(x) => *x,
+        None => f64::NAN,
     }
-    0.0 / 0.0
 }
 
-// A store at i, and none past the end.
+// A store at i, and none past the end. Not by `get_mut`, which hands out a borrow: what is written behind it
+// would have to be followed back to the slice.
 pub fn put<T: Copy>(s: &mut [T], i: usize, x: T)
     ensures { s.new ≡ set s.old i x }
 {
@@ -35,7 +35,8 @@ pub fn has_room(room: usize, from: usize, n: usize) -> bool
     from <= room - n
 }
 
-// src into dst, from `from` on.
+// src into dst, from `from` on. The library's `copy_from_slice` asks for a part of just that length; this
+// asks nothing.
 pub fn copy_into<T: Copy>(dst: &mut [T], from: usize, src: &[T])
     ensures { dst.new ≡ placed from src.now dst.old }
 {

@@ -197,21 +197,21 @@ root_of_value (fin false (suc m) e) a p v =
 
 -- ---- `sqrt`
 abbrev Endless : Float
-Endless = div binary64 (of_bits binary64 0x3ff0_0000_0000_0000) Nought
+Endless = of_bits binary64 0x7ff0_0000_0000_0000
 
 pub below_endless : (x : Float) → lt x Endless ≡ true → T (lt x (inf false))
-unfolding of_bits div
+unfolding of_bits
 below_endless x t = subst T (sym t) tt
 
 pub endless : (x : Float) → T (lt Zero x) → lt x Endless ≡ false → x ≡ sqrt_of x
-unfolding lt of_bits div sqrt_of
+unfolding lt of_bits sqrt_of
 endless nan p t = absurd p
 endless (inf true) p t = absurd p
 endless (inf false) p t = refl
 endless (fin s m e) p t = absurd (true≢false t)
 
-pub under : (x : Float) → lt x Nought ≡ true → div binary64 Nought Nought ≡ sqrt_of x
-unfolding lt of_bits div sqrt_of
+pub under : (x : Float) → lt x Nought ≡ true → of_bits binary64 0x7ff8_0000_0000_0000 ≡ sqrt_of x
+unfolding lt of_bits sqrt_of
 under nan t = refl
 under (inf true) t = refl
 under (inf false) t = absurd (false≢true t)
