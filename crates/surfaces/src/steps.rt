@@ -15,18 +15,23 @@ pub enum Axis {
     V,
 }
 
+// Steps along v, where that is an arc: of a sphere and of a torus.
+fn arc_steps(surface: Surface, span: f64, options: Resolved) -> Option<usize>
+    ensures { result ≡ arc_steps surface span options }
+{
+    match surface {
+        Surface::Sphere { radius } => Some(options.segments_for_arc(radius, span)),
+        Surface::Torus { minor_radius, .. } => Some(options.segments_for_arc(minor_radius, span)),
+        Surface::Plane | Surface::Cylinder { .. } | Surface::Cone { .. } => None,
+    }
+}
+
 // Steps of a wall from one v to another: a straight line needs no more than the least number.
-#[tactic(auto, unfolding(crate::specs::Steps::v_steps_of))]
+#[tactic(auto, using(crate::proofs::steps::Arcs::wall_by_arc))]
 pub fn v_steps(surface: Surface, from: f64, to: f64, options: Resolved) -> usize
     ensures { result ≡ v_steps_of surface from to options }
 {
-    match surface {
-        Surface::Plane | Surface::Cylinder { .. } | Surface::Cone { .. } => options
-            .min_edge_segments
-            .max(1),
-        Surface::Sphere { radius } => options.segments_for_arc(radius, to - from),
-        Surface::Torus { minor_radius, .. } => options.segments_for_arc(minor_radius, to - from),
-    }
+    arc_steps(surface, to - from, options).unwrap_or(options.min_edge_segments.max(1))
 }
 
 // Steps of a whole surface in one direction from lo to hi, where the other parameter is `other`.
@@ -65,12 +70,9 @@ fn around_steps(surface: Surface, span: f64, v: f64, options: Resolved) -> usize
     }
 }
 
+#[tactic(auto, using(crate::proofs::steps::Arcs::along_by_arc))]
 fn along_steps(surface: Surface, span: f64, options: Resolved) -> usize
     ensures { result ≡ along_steps surface span options }
 {
-    match surface {
-        Surface::Sphere { radius } => options.segments_for_arc(radius, span),
-        Surface::Torus { minor_radius, .. } => options.segments_for_arc(minor_radius, span),
-        Surface::Plane | Surface::Cylinder { .. } | Surface::Cone { .. } => 1,
-    }
+    arc_steps(surface, span, options).unwrap_or(1)
 }

@@ -6,13 +6,11 @@ ghost use Rattle.lists.specs.Parts.{part_of};
 ghost use Rattle.lists.specs.Placed.{placed};
 
 // The element at i, and a NaN past the end: a read that asks nothing.
+#[tactic(auto, using(crate::proofs::slices::Laws::nan_is))]
 pub fn at(s: &[f64], i: usize) -> f64
     ensures { result ≡ get_or s.now i nan }
 {
-    match s.get(i) {
-        Some(x) => *x,
-        None => f64::NAN,
-    }
+    s.get(i).copied().unwrap_or(f64::NAN)
 }
 
 // A store at i, and none past the end. Not by `get_mut`, which hands out a borrow: what is written behind it
