@@ -1,5 +1,5 @@
 -- How many steps `v_steps` and `direction_steps` of `face.rs` give.
-use Rattle.std.specs.Prelude.{ℕ, max, Float}
+use Rattle.std.specs.Prelude.{ℕ, max, Float, Option, Some, None}
 use Rattle.numbers.specs.Constants.{10^-3}
 use Rattle.numbers.specs.Rounded.{◌⊕◌, ◌⊖◌, ◌⊗◌}
 use Rattle.numbers.specs.Order.{abs_of, max_of}
@@ -18,6 +18,14 @@ v_steps_of (Cylinder R) from to o = max o.min_edge_segments 1
 v_steps_of (Cone R a) from to o = max o.min_edge_segments 1
 v_steps_of (Sphere R) from to o = segments_of o R (to ⊖ from)
 v_steps_of (Torus R r) from to o = segments_of o r (to ⊖ from)
+
+-- steps along v, where that is an arc: of the radius of a sphere, and of the minor radius of a torus
+abbrev pub arc_steps : Surface → Float → Resolved → Option ℕ
+arc_steps Plane span o = None
+arc_steps (Cylinder R) span o = None
+arc_steps (Cone R a) span o = None
+arc_steps (Sphere R) span o = Some (segments_of o R span)
+arc_steps (Torus R r) span o = Some (segments_of o r span)
 
 -- 01, "Whole surfaces": sphere and torus only. Nobody asks for the other kinds, whose answer is 1 here.
 abbrev pub around_steps : Surface → Float → Float → Resolved → ℕ

@@ -1,6 +1,6 @@
 // How many steps `face.rs` gives a wall and a direction of a whole surface.
 ghost use Rattle.std.specs.Prelude.{◌≡◌};
-ghost use Rattle.surfaces.specs.Steps.{v_steps_of, direction_steps_of, around_steps, along_steps};
+ghost use Rattle.surfaces.specs.Steps.{v_steps_of, direction_steps_of, around_steps, along_steps, arc_steps};
 
 use super::options::Resolved;
 use super::surface::Surface;
