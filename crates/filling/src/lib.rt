@@ -59,7 +59,7 @@ fn fill_whole(patch: Patch, out: &mut ResultLoops) -> FilledFace
     ensures { (s : List ℕ) → Accepted version1 s → loops_of s ≡ 0 → patch ≡ patch_in s
         → FillsTo passes s (Ok result) out.new }
 {
-    out.counts[0] = full_domain_count(patch);
+    out.counts[0] = full_domain_count(patch.surface, patch.options);
     out.areas[0] = full_domain_loop(patch, &mut out.corners);
     FilledFace {
         path: Path::Whole,

@@ -5,9 +5,9 @@ ghost use Rattle.std.specs.Float.Ieee.{le};
 ghost use Rattle.std.proofs.lemmas.List.Edits.{sets};
 ghost use Rattle.full_domain.specs.Boundary.{is_whole, clamped, centre, wrap_of, range_of, other_than, steps_of, rungs_of, RungsEnd, RungsWritten, CountEnds, whole_corners, position_of};
 
-use numbers::math::{Interval, Vec2, Vec3};
+use numbers::math::{Frame, Interval, Vec2, Vec3};
 use surfaces::knots::{merge_even, merge_even_steps};
-use surfaces::patch::Patch;
+use surfaces::options::Resolved;
 use surfaces::steps::{Axis, direction_steps};
 use surfaces::surface::Surface;
 
@@ -66,57 +66,50 @@ fn other_than(axis: Axis) -> Axis
 }
 
 #[tactic(auto, unfolding(crate::specs::Boundary::steps_of))]
-fn steps(patch: Patch, axis: Axis) -> usize
-    ensures { result ≡ steps_of axis patch.surface patch.options }
+fn steps(surface: Surface, axis: Axis, options: Resolved) -> usize
+    ensures { result ≡ steps_of axis surface options }
 {
-    let along = range_of(patch.surface, axis);
-    let across = range_of(patch.surface, other_than(axis));
-    clamped(direction_steps(
-        patch.surface,
-        axis,
-        along.lo,
-        along.hi,
-        centre(across),
-        patch.options,
-    ))
+    let along = range_of(surface, axis);
+    let across = range_of(surface, other_than(axis));
+    clamped(direction_steps(surface, axis, along.lo, along.hi, centre(across), options))
 }
 
 // How many corners a side has, less its last one, which begins the next side.
-pub fn side_count(patch: Patch, axis: Axis) -> usize
-    ensures value { (result ≡ length (rungs_of axis patch.surface patch.options) - 1) × (result ≤ 256) }
-    ensures rungs_end { RungsEnd axis patch.surface patch.options result }
+pub fn side_count(surface: Surface, axis: Axis, options: Resolved) -> usize
+    ensures value { (result ≡ length (rungs_of axis surface options) - 1) × (result ≤ 256) }
+    ensures rungs_end { RungsEnd axis surface options result }
 {
-    let along = range_of(patch.surface, axis);
-    merge_even_steps(along.lo, along.hi, steps(patch, axis))
+    let along = range_of(surface, axis);
+    merge_even_steps(along.lo, along.hi, steps(surface, axis, options))
 }
 
 // The rungs of a direction, as many as there is room for. There are at most 257.
-pub fn write_rungs(patch: Patch, axis: Axis, out: &mut [f64])
-    ensures out_after { out.new ≡ sets out.old 0 (rungs_of axis patch.surface patch.options) }
-    ensures rungs_written { RungsWritten axis patch.surface patch.options out.new }
+pub fn write_rungs(surface: Surface, axis: Axis, options: Resolved, out: &mut [f64])
+    ensures out_after { out.new ≡ sets out.old 0 (rungs_of axis surface options) }
+    ensures rungs_written { RungsWritten axis surface options out.new }
 {
-    let along = range_of(patch.surface, axis);
-    merge_even(along.lo, along.hi, steps(patch, axis), 0, out);
+    let along = range_of(surface, axis);
+    merge_even(along.lo, along.hi, steps(surface, axis, options), 0, out);
 }
 
 // How many corners the boundary has, and none for the kinds that have no whole.
-pub fn full_domain_count(patch: Patch) -> usize
-    ensures value { result ≡ length (whole_corners patch.surface patch.options) }
-    ensures count_ends { CountEnds patch.surface patch.options result }
+pub fn full_domain_count(surface: Surface, options: Resolved) -> usize
+    ensures value { result ≡ length (whole_corners surface options) }
+    ensures count_ends { CountEnds surface options result }
 {
-    if is_whole(patch.surface) {
-        return 2 * (side_count(patch, Axis::U) + side_count(patch, Axis::V));
+    if is_whole(surface) {
+        let su = side_count(surface, Axis::U, options);
+        return 2 * (su + side_count(surface, Axis::V, options));
     }
     0
 }
 
 #[tactic(auto, unfolding(crate::specs::Boundary::position_of))]
-pub fn position_at(patch: Patch, c: Vec2) -> Vec3
-    ensures { result ≡ position_of patch.surface patch.frame c }
+pub fn position_at(surface: Surface, frame: Frame, c: Vec2) -> Vec3
+    ensures { result ≡ position_of surface frame c }
 {
-    let d = patch.surface.domain();
-    patch.point_at(Vec2 {
-        u: wrap(d.u_period, d.u, c.u),
-        v: wrap(d.v_period, d.v, c.v),
-    })
+    let d = surface.domain();
+    let u = wrap(d.u_period, d.u, c.u);
+    let v = wrap(d.v_period, d.v, c.v);
+    surface.point_at(frame, Vec2 { u, v })
 }

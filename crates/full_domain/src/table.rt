@@ -45,7 +45,7 @@ fn corner_along(patch: Patch, axis: Axis, fixed: f64, x: f64) -> Corner
     Corner {
         u: c.u,
         v: c.v,
-        at: position_at(patch, c),
+        at: position_at(patch.surface, patch.frame, c),
     }
 }
 
@@ -91,8 +91,8 @@ fn put_boundary(patch: Patch, su: usize, sv: usize, t: &mut [Corner])
 {
     let mut us = [0.0; 257];
     let mut vs = [0.0; 257];
-    write_rungs(patch, Axis::U, &mut us);
-    write_rungs(patch, Axis::V, &mut vs);
+    write_rungs(patch.surface, Axis::U, patch.options, &mut us);
+    write_rungs(patch.surface, Axis::V, patch.options, &mut vs);
     // `part` promises something for every count. A range asks for one within the array, which would have
     // to be shown for each of the two.
     put_sides(patch, part(&us, 0, su + 1), part(&vs, 0, sv + 1), t);
@@ -108,8 +108,8 @@ pub fn full_domain_loop(patch: Patch, t: &mut [Corner]) -> f64
     if !is_whole(patch.surface) {
         return 0.0;
     }
-    let su = side_count(patch, Axis::U);
-    let sv = side_count(patch, Axis::V);
+    let su = side_count(patch.surface, Axis::U, patch.options);
+    let sv = side_count(patch.surface, Axis::V, patch.options);
     let n = 2 * (su + sv);
     if t.len() < n {
         return 0.0;

@@ -20,28 +20,28 @@ abbrev pub at_u : Float → Corner Vec3 → Corner Vec3
 at_u u c = move_u (λ _. u) c
 
 -- the heights of a wall between two rings, where `on` has those from one v to another: none where a ring has no corner
-unfoldable pub heights_by : (Surface → Resolved → Float → Float → List Float) → Patch → Corners Vec3 → Corners Vec3 → List Float
-heights_by on patch [] upper = []
-heights_by on patch (l ∷ lower) [] = []
-heights_by on patch (l ∷ lower) (u ∷ upper) = on patch.surface patch.options l.v u.v
+unfoldable pub heights_by : (Float → Float → List Float) → Corners Vec3 → Corners Vec3 → List Float
+heights_by on [] upper = []
+heights_by on (l ∷ lower) [] = []
+heights_by on (l ∷ lower) (u ∷ upper) = on l.v u.v
 
-abbrev pub heights_between : Patch → Corners Vec3 → Corners Vec3 → List Float
-heights_between = heights_by heights_on
+abbrev pub heights_between : Surface → Resolved → Corners Vec3 → Corners Vec3 → List Float
+heights_between surface options = heights_by (heights_on surface options)
 
 -- a wall's row at u and v
 abbrev pub row_on : Patch → Float → Float → Corner Vec3
 row_on patch u v = record { u = u; v = v; at = point_of patch.frame patch.surface u v }
 
 -- "positions are taken at the lower ring's first u"
-abbrev pub wall_by : (Surface → Resolved → Float → Float → List Float) → Patch → Corners Vec3 → Corners Vec3 → Corners Vec3
-wall_by on patch lower upper = map (row_on patch (get_or lower 0 none).u) (heights_by on patch lower upper)
+abbrev pub wall_by : (Float → Float → List Float) → Patch → Corners Vec3 → Corners Vec3 → Corners Vec3
+wall_by on patch lower upper = map (row_on patch (get_or lower 0 none).u) (heights_by on lower upper)
 
 abbrev pub wall_between : Patch → Corners Vec3 → Corners Vec3 → Corners Vec3
-wall_between = wall_by heights_on
+wall_between patch = wall_by (heights_on patch.surface patch.options) patch
 
 -- by the divisions kept: 02, N2 sets the last rung and changes no wall
 abbrev pub wall_kept : Patch → Corners Vec3 → Corners Vec3 → Corners Vec3
-wall_kept = wall_by heights_kept
+wall_kept patch = wall_by (heights_kept patch.surface patch.options) patch
 
 -- what comes behind the corner where the first wall begins: that wall, one period up, "the upper ring with u falling, the other wall"
 abbrev pub far_side : Float → Corners Vec3 → Corners Vec3 → Corners Vec3

@@ -96,7 +96,7 @@ pub fn close_strip(
     ensures value { (sense : Bool) → result ≡ closing_of (setting_on patch period sense) (rows lower.now) (rows upper.now) (room_for wall.old out.old) }
     ensures out_after { (sense : Bool) → rows out.new ≡ closed_into (setting_on patch period sense) (rows lower.now) (rows upper.now) (room_for wall.old out.old) (rows out.old) }
 {
-    let inner = inner_between(lower, upper, patch);
+    let inner = inner_between(lower, upper, patch.surface, patch.options);
     let n = strip_rows(lower, upper, inner);
     let room = (2 * wall.len()).min(out.len());
     if room < n {

@@ -10,23 +10,30 @@ ghost use Rattle.strip.specs.Corners.{heights_between, row_on, wall_between, wal
 use numbers::math::Vec2;
 use numbers::order::{max, min};
 use surfaces::knots::{KeptDivisions, inner_count};
+use surfaces::options::Resolved;
 use surfaces::patch::Patch;
 use surfaces::steps::v_steps;
+use surfaces::surface::Surface;
 use tables::corners::Corner;
 
 // How many corners a wall has between the two rings. 02, N2 changes neither them nor their heights.
-pub fn wall_count(patch: Patch, lower: f64, upper: f64) -> usize
-    ensures value { result ≡ length (heights_on patch.surface patch.options lower upper) }
-    ensures as_kept { result ≡ length (heights_kept patch.surface patch.options lower upper) }
+pub fn wall_count(surface: Surface, options: Resolved, lower: f64, upper: f64) -> usize
+    ensures value { result ≡ length (heights_on surface options lower upper) }
+    ensures as_kept { result ≡ length (heights_kept surface options lower upper) }
 {
     let lo = min(lower, upper);
     let hi = max(lower, upper);
-    inner_count(lo, hi, v_steps(patch.surface, lo, hi, patch.options))
+    inner_count(lo, hi, v_steps(surface, lo, hi, options))
 }
 
 // How many corners a wall between two rings has.
-pub fn inner_between(lower: &[Corner], upper: &[Corner], patch: Patch) -> usize
-    ensures { result ≡ length (heights_between patch (rows lower.now) (rows upper.now)) }
+pub fn inner_between(
+    lower: &[Corner],
+    upper: &[Corner],
+    surface: Surface,
+    options: Resolved,
+) -> usize
+    ensures { result ≡ length (heights_between surface options (rows lower.now) (rows upper.now)) }
 {
     let [l, ..] = lower else {
         return 0;
@@ -34,7 +41,7 @@ pub fn inner_between(lower: &[Corner], upper: &[Corner], patch: Patch) -> usize
     let [u, ..] = upper else {
         return 0;
     };
-    wall_count(patch, l.v, u.v)
+    wall_count(surface, options, l.v, u.v)
 }
 
 // The surface points at u and at each v that `heights` gives, in the front of the wall's table, as many
@@ -81,7 +88,7 @@ pub fn raise_wall(wall: &mut [Corner], lower: &[Corner], upper: &[Corner], patch
     let [u, ..] = upper else {
         return;
     };
-    let n = wall_count(patch, l.v, u.v);
+    let n = wall_count(patch.surface, patch.options, l.v, u.v);
     if wall.len() < n {
         return;
     }

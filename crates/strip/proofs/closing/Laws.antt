@@ -146,12 +146,12 @@ module _ (patch : Patch) (period : Float) where
 
     -- what the code has counted before it tests the room
     pub record Measured (inner n : ℕ) : Type 0 where
-      pub inner_is : inner ≡ length (heights_between patch lower upper)
+      pub inner_is : inner ≡ length (heights_between patch.surface patch.options lower upper)
       pub count_is : n ≡ capped (strip_count (length lower) (length upper) inner)
 
     module _ (inner n : ℕ) (c : Measured inner n) where
       wall-count : length W ≡ inner
-      wall-count = length-map (heights_between patch lower upper) (row_on patch (get_or lower 0 none).u) ∙ sym c.inner_is
+      wall-count = length-map (heights_between patch.surface patch.options lower upper) (row_on patch (get_or lower 0 none).u) ∙ sym c.inner_is
 
       laid-count : n ≡ capped (length laid)
       laid-count = c.count_is ∙ ap (λ (k : ℕ). capped (strip_count (length lower) (length upper) k)) (sym wall-count) ∙ ap capped (sym (length-strip period lower upper W))

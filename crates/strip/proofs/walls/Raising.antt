@@ -22,20 +22,20 @@ use Rattle.strip.proofs.walls.Laws.{placed-front}
 
 -- ---- heights between two rings
 
-module _ (patch : Patch) where
-  pub no_lower : (lower upper : List Held) → length lower ≡ 0 → heights_between patch (rows lower) (rows upper) ≡ []
+module _ (surface : Surface) (options : Resolved) where
+  pub no_lower : (lower upper : List Held) → length lower ≡ 0 → heights_between surface options (rows lower) (rows upper) ≡ []
   unfolding heights_by rows
   no_lower [] upper e = refl
   no_lower (l ∷ lower) upper e = absurd (omega arith)
 
-  pub no_upper : (lower upper : List Held) → length upper ≡ 0 → heights_between patch (rows lower) (rows upper) ≡ []
+  pub no_upper : (lower upper : List Held) → length upper ≡ 0 → heights_between surface options (rows lower) (rows upper) ≡ []
   unfolding heights_by rows
   no_upper [] upper e = refl
   no_upper (l ∷ lower) [] e = refl
   no_upper (l ∷ lower) (u ∷ upper) e = absurd (omega arith)
 
   pub heights-there : (lower upper : List Held) → 0 < length lower → 0 < length upper
-      → heights_on patch.surface patch.options (get_or lower 0 absent).v (get_or upper 0 absent).v ≡ heights_between patch (rows lower) (rows upper)
+      → heights_on surface options (get_or lower 0 absent).v (get_or upper 0 absent).v ≡ heights_between surface options (rows lower) (rows upper)
   unfolding heights_by rows
   heights-there [] upper a b = absurd (omega arith)
   heights-there (l ∷ lower) [] a b = absurd (omega arith)
@@ -80,10 +80,10 @@ module _ (patch : Patch) (u : Float) (all : List Float) (wall₀ : List Held) wh
 pub both_walls : (patch : Patch) (lower upper before after : Corners Vec3) → after ≡ placed 0 (wall_between patch lower upper) before
     → (after ≡ placed 0 (wall_between patch lower upper) before) × (after ≡ placed 0 (wall_kept patch lower upper) before)
 both_walls patch lower upper before after e =
-    let same : heights_on ≡ heights_kept = (λ i surface options a b. heights-kept surface options a b i) in
-    (e, e ∙ ap (λ (on : Surface → Resolved → Float → Float → List Float). placed 0 (wall_by on patch lower upper) before) same)
+    let same : heights_on patch.surface patch.options ≡ heights_kept patch.surface patch.options = (λ i a b. heights-kept patch.surface patch.options a b i) in
+    (e, e ∙ ap (λ (on : Float → Float → List Float). placed 0 (wall_by on patch lower upper) before) same)
 
-pub no_wall : (patch : Patch) (lower upper before : Corners Vec3) → heights_between patch lower upper ≡ [] → before ≡ placed 0 (wall_between patch lower upper) before
+pub no_wall : (patch : Patch) (lower upper before : Corners Vec3) → heights_between patch.surface patch.options lower upper ≡ [] → before ≡ placed 0 (wall_between patch lower upper) before
 no_wall patch lower upper before e =
     sym (ap (λ (h : List Float). placed 0 (map (row_on patch (get_or lower 0 none).u) h) before) e ∙ placed-none 0 before)
 
@@ -93,8 +93,8 @@ module _ (patch : Patch) (lower upper before : List Held) (n : ℕ) (a : 0 < len
   W = wall_between patch (rows lower) (rows upper)
 
   long : length W ≡ n
-  long = length-map (heights_between patch (rows lower) (rows upper)) (row_on patch (get_or (rows lower) 0 none).u)
-      ∙ sym (count ∙ ap length (heights-there patch lower upper a b))
+  long = length-map (heights_between patch.surface patch.options (rows lower) (rows upper)) (row_on patch (get_or (rows lower) 0 none).u)
+      ∙ sym (count ∙ ap length (heights-there patch.surface patch.options lower upper a b))
 
   pub too_low : length before < n → rows before ≡ placed 0 W (rows before)
   too_low h = sym (placed_short 0 W (rows before) (let e = long in let l = length-rows before in omega arith))
@@ -105,5 +105,5 @@ module _ (patch : Patch) (lower upper before : List Held) (n : ℕ) (a : 0 < len
   raised part h e =
       let l = length-rows before in
       let first = ap (λ (c : Corner Vec3). c.u) (row_at lower 0 a) in
-      let front : rows part ≡ W = e ∙ (λ i. map (row_on patch (sym first i)) (heights-there patch lower upper a b i)) in
+      let front : rows part ≡ W = e ∙ (λ i. map (row_on patch (sym first i)) (heights-there patch.surface patch.options lower upper a b i)) in
       rows_append part (drop n before) ∙ (λ i. front i ++ rows_drop n before i) ∙ sym (placed-front W (rows before) n (sym long) (omega arith))

@@ -4,12 +4,12 @@ use Rattle.strip.proofs.walls.raise_wall.Goals as goal
 
 pub returns-in_default : goal.returns-in_default
 returns-in_default c =
-    let r = both_walls _ _ _ _ _ (no_wall c.args.patch _ _ _ (no_lower c.args.patch c.args.lower.now c.args.upper.now (omega arith))) in
+    let r = both_walls _ _ _ _ _ (no_wall c.args.patch _ _ _ (no_lower c.args.patch.surface c.args.patch.options c.args.lower.now c.args.upper.now (omega arith))) in
     record { raised = r.0; as_kept = r.1 }
 
 pub returns-in_default-upper : goal.returns-in_default-upper
 returns-in_default-upper c =
-    let r = both_walls _ _ _ _ _ (no_wall c.args.patch _ _ _ (no_upper c.args.patch c.args.lower.now c.args.upper.now (omega arith))) in
+    let r = both_walls _ _ _ _ _ (no_wall c.args.patch _ _ _ (no_upper c.args.patch.surface c.args.patch.options c.args.lower.now c.args.upper.now (omega arith))) in
     record { raised = r.0; as_kept = r.1 }
 
 pub returns-then-wall-n : goal.returns-then-wall-n

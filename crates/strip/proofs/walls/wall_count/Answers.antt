@@ -9,7 +9,7 @@ returns c = let given = c.args in
     let least = c.min-lo.ensures in
     let most = c.max-hi.ensures in
     let steps = c.v_steps.ensures in
-    let count = laws.count_is given.patch.surface given.patch.options given.lower given.upper _ _ _ least most steps _ c.inner_count.ensures.value in
+    let count = laws.count_is given.surface given.options given.lower given.upper _ _ _ least most steps _ c.inner_count.ensures.value in
     record {
       value = count;
       as_kept = count ∙ ap length (heights-kept _ _ _ _);
