@@ -1,3 +1,2 @@
-pub mod Points
 pub mod Records
 pub mod Surfaces

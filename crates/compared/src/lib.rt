@@ -1,5 +1,8 @@
 // Exports for the comparison with the Rust alone: thin functions over the layers, each with the
-// equation of what it calls. The product does not link them.
+// equation of what it calls. The product does not link them. No enum and no `Option` crosses to C: kinds
+// and paths are numbers of 32 bits there, as a C enum is, a period is 0.0 for none, and what may be
+// missing has a flag beside it. What turns such a number into a type of another crate is a function, as
+// that type's `From` could stand in its own crate alone.
 #![tactic(auto)]
 
 pub mod of_closed_region;

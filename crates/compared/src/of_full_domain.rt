@@ -4,12 +4,10 @@ ghost use Rattle.lists.specs.Placed.{placed};
 ghost use Rattle.tables.specs.Rows.{rows};
 ghost use Rattle.full_domain.specs.Boundary.{CountEnds, whole_corners, area_within};
 ghost use Rattle.full_domain.specs.Table.{whole_rows, RowsReach};
-ghost use Rattle.compared.specs.Points.{frame_of};
 ghost use Rattle.compared.specs.Surfaces.{surface_of, resolved_of};
 
-use super::of_numbers::{Placement, frame_of};
 use super::of_surfaces::surface_of;
-use numbers::math::{Frame, Vec3};
+use numbers::math::Frame;
 use surfaces::options::Resolved;
 use surfaces::patch::Patch;
 use tables::corners::Corner;
@@ -26,26 +24,12 @@ pub extern "C" fn compared_full_domain_count(
     ensures value { result ≡ length (whole_corners (surface_of kind a b) (resolved_of sag angle segments)) }
     ensures count_ends { CountEnds (surface_of kind a b) (resolved_of sag angle segments) result }
 {
-    // The count is the same wherever the surface stands.
-    let here = Vec3 {
-        x: 0.0,
-        y: 0.0,
-        z: 0.0,
+    let options = Resolved {
+        sag,
+        angle,
+        min_edge_segments: segments,
     };
-    let patch = Patch {
-        surface: surface_of(kind, a, b),
-        frame: Frame {
-            origin: here,
-            axis: here,
-            reference: here,
-        },
-        options: Resolved {
-            sag,
-            angle,
-            min_edge_segments: segments,
-        },
-    };
-    full_domain::boundary::full_domain_count(patch)
+    full_domain::boundary::full_domain_count(surface_of(kind, a, b), options)
 }
 
 #[unsafe(no_mangle)]
@@ -53,19 +37,19 @@ pub extern "C" fn compared_full_domain_loop(
     kind: u32,
     a: f64,
     b: f64,
-    frame: Placement,
+    frame: Frame,
     sag: f64,
     angle: f64,
     segments: usize,
     t: &mut [Corner],
 ) -> f64
     ensures value { result ≡ area_within (length (rows t.old)) (surface_of kind a b) (resolved_of sag angle segments) }
-    ensures t_after { rows t.new ≡ placed 0 (whole_rows (surface_of kind a b) (frame_of frame) (resolved_of sag angle segments)) (rows t.old) }
+    ensures t_after { rows t.new ≡ placed 0 (whole_rows (surface_of kind a b) frame (resolved_of sag angle segments)) (rows t.old) }
     ensures rows_reach { RowsReach (surface_of kind a b) (resolved_of sag angle segments) (length (rows t.old)) (rows t.new) }
 {
     let patch = Patch {
         surface: surface_of(kind, a, b),
-        frame: frame_of(frame),
+        frame,
         options: Resolved {
             sag,
             angle,

@@ -6,63 +6,8 @@ ghost use Rattle.numbers.specs.Trig.{sincos_of, tan_of, acos_of};
 ghost use Rattle.numbers.specs.Order.{abs_of, min_of, max_of};
 ghost use Rattle.numbers.specs.Frames.{polar_of};
 ghost use Rattle.numbers.specs.Frames as Frames;
-ghost use Rattle.compared.specs.Points.{vec_of, point_of, frame_of, placement_of};
 
-#[repr(C)]
-#[derive(Clone, Copy)]
-pub struct Point {
-    pub x: f64,
-    pub y: f64,
-    pub z: f64,
-}
-
-#[repr(C)]
-#[derive(Clone, Copy)]
-pub struct Placement {
-    pub origin: Point,
-    pub axis: Point,
-    pub reference: Point,
-}
-
-fn vec_of(p: Point) -> numbers::math::Vec3
-    ensures { result ≡ vec_of p }
-{
-    numbers::math::Vec3 {
-        x: p.x,
-        y: p.y,
-        z: p.z,
-    }
-}
-
-pub fn point_of(p: numbers::math::Vec3) -> Point
-    ensures { result ≡ point_of p }
-{
-    Point {
-        x: p.x,
-        y: p.y,
-        z: p.z,
-    }
-}
-
-pub fn frame_of(f: Placement) -> numbers::math::Frame
-    ensures { result ≡ frame_of f }
-{
-    numbers::math::Frame {
-        origin: vec_of(f.origin),
-        axis: vec_of(f.axis),
-        reference: vec_of(f.reference),
-    }
-}
-
-fn placement_of(f: numbers::math::Frame) -> Placement
-    ensures { result ≡ placement_of f }
-{
-    Placement {
-        origin: point_of(f.origin),
-        axis: point_of(f.axis),
-        reference: point_of(f.reference),
-    }
-}
+use numbers::math::{Frame, Vec3};
 
 #[unsafe(no_mangle)]
 pub extern "C" fn compared_round(x: f64) -> f64
@@ -146,15 +91,15 @@ pub extern "C" fn compared_max(a: f64, b: f64) -> f64
 }
 
 #[unsafe(no_mangle)]
-pub extern "C" fn compared_frame_new(origin: Point, axis: Point, reference: Point) -> Placement
-    ensures { result ≡ placement_of (Frames.frame_of (vec_of origin) (vec_of axis) (vec_of reference)) }
+pub extern "C" fn compared_frame_new(origin: Vec3, axis: Vec3, reference: Vec3) -> Frame
+    ensures { result ≡ Frames.frame_of origin axis reference }
 {
-    placement_of(numbers::math::Frame::new(vec_of(origin), vec_of(axis), vec_of(reference)))
+    Frame::new(origin, axis, reference)
 }
 
 #[unsafe(no_mangle)]
-pub extern "C" fn compared_polar(frame: Placement, r: f64, theta: f64) -> Point
-    ensures { result ≡ point_of (polar_of (frame_of frame) r theta) }
+pub extern "C" fn compared_polar(frame: Frame, r: f64, theta: f64) -> Vec3
+    ensures { result ≡ polar_of frame r theta }
 {
-    point_of(frame_of(frame).polar(r, theta))
+    frame.polar(r, theta)
 }

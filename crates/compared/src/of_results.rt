@@ -31,20 +31,22 @@ fn path_from(number: u32) -> Path
     }
 }
 
-fn room_of(size: Option<RecordSize>) -> Room
-    ensures { result ≡ room_of size }
-{
-    match size {
-        Some(RecordSize { corners, length }) => Room {
-            holds: 1,
-            corners,
-            length,
-        },
-        None => Room {
-            holds: 0,
-            corners: 0,
-            length: 0,
-        },
+impl From<Option<RecordSize>> for Room {
+    ghost from_gives = { λ size room. room ≡ room_of size };
+
+    fn from(size: Option<RecordSize>) -> Room {
+        match size {
+            Some(RecordSize { corners, length }) => Room {
+                holds: 1,
+                corners,
+                length,
+            },
+            None => Room {
+                holds: 0,
+                corners: 0,
+                length: 0,
+            },
+        }
     }
 }
 
@@ -52,7 +54,7 @@ fn room_of(size: Option<RecordSize>) -> Room
 pub extern "C" fn compared_result_size(counts: &[usize]) -> Room
     ensures { result ≡ room_of (size_of counts.now) }
 {
-    room_of(results::result_size(counts))
+    Room::from(results::result_size(counts))
 }
 
 #[unsafe(no_mangle)]

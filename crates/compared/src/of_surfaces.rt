@@ -5,11 +5,9 @@ ghost use Rattle.surfaces.specs.Domains.{domain_of};
 ghost use Rattle.surfaces.specs.Points as Points;
 ghost use Rattle.surfaces.specs.Rungs.{kept_divisions, rungs, EndsOn, EndWritten, inner};
 ghost use Rattle.surfaces.specs.Steps.{v_steps_of, direction_steps_of};
-ghost use Rattle.compared.specs.Points.{point_of, frame_of};
 ghost use Rattle.compared.specs.Surfaces.{surface_of, axis_of, resolved_of, period_of, ends_of};
 
-use super::of_numbers::{Placement, Point, frame_of, point_of};
-use numbers::math::Vec2;
+use numbers::math::{Frame, Vec2, Vec3};
 use surfaces::options::Resolved;
 use surfaces::steps::Axis;
 use surfaces::surface::{Domain, Surface};
@@ -56,40 +54,33 @@ pub fn period_of(length: f64) -> Option<f64>
     if length == 0.0 { None } else { Some(length) }
 }
 
-fn ends_of(d: Domain) -> DomainEnds
-    ensures { result ≡ ends_of d }
-{
-    let u_period = d.u_period;
-    let v_period = d.v_period;
-    DomainEnds {
-        ulo: d.u.lo,
-        uhi: d.u.hi,
-        vlo: d.v.lo,
-        vhi: d.v.hi,
-        uperiod: u_period.unwrap_or(0.0),
-        vperiod: v_period.unwrap_or(0.0),
+impl From<Domain> for DomainEnds {
+    ghost from_gives = { λ domain ends. ends ≡ ends_of domain };
+
+    fn from(domain: Domain) -> DomainEnds {
+        DomainEnds {
+            ulo: domain.u.lo,
+            uhi: domain.u.hi,
+            vlo: domain.v.lo,
+            vhi: domain.v.hi,
+            uperiod: domain.u_period.unwrap_or(0.0),
+            vperiod: domain.v_period.unwrap_or(0.0),
+        }
     }
 }
 
 #[unsafe(no_mangle)]
-pub extern "C" fn compared_point_at(
-    kind: u32,
-    a: f64,
-    b: f64,
-    frame: Placement,
-    u: f64,
-    v: f64,
-) -> Point
-    ensures { result ≡ point_of (Points.point_of (frame_of frame) (surface_of kind a b) u v) }
+pub extern "C" fn compared_point_at(kind: u32, a: f64, b: f64, frame: Frame, u: f64, v: f64) -> Vec3
+    ensures { result ≡ Points.point_of frame (surface_of kind a b) u v }
 {
-    point_of(surface_of(kind, a, b).point_at(frame_of(frame), Vec2 { u, v }))
+    surface_of(kind, a, b).point_at(frame, Vec2 { u, v })
 }
 
 #[unsafe(no_mangle)]
 pub extern "C" fn compared_domain(kind: u32, a: f64, b: f64) -> DomainEnds
     ensures { result ≡ ends_of (domain_of (surface_of kind a b)) }
 {
-    ends_of(surface_of(kind, a, b).domain())
+    DomainEnds::from(surface_of(kind, a, b).domain())
 }
 
 #[unsafe(no_mangle)]
