@@ -105,7 +105,8 @@ fn put(s: &mut [f64], from: usize, k: usize, x: f64)
 }
 
 // Writes the rungs from that of number `from` on, as many as there is room for. Where the bounds
-// differ they end on the upper one itself.
+// differ they end on the upper one itself. How many came is asked for behind the walk, so k is counted
+// by hand.
 pub fn merge_even(lo: f64, hi: f64, n: usize, from: usize, out: &mut [f64])
     ensures out_after { out.new ≡ sets out.old 0 (drop from (rungs lo hi n)) }
     ensures end_written { EndWritten lo hi n from out.new }
