@@ -18,8 +18,9 @@ use tables::loops::Loops;
 
 pub mod entry;
 
-// What filling leaves, written into the front of the lent bytes. Answers how many it takes, none where
-// something is too short.
+// What filling leaves, written into the front of the lent bytes. Answers how many it takes, and 0 where
+// something is too short: that it never is, is proved of the call, which would only take an `Option`
+// apart to the same 0.
 fn write_filled(face: FilledFace, out: &ResultLoops, res: &mut [u8]) -> usize
     ensures { WrittenBytes face.path face.loops out.now.counts out.now.areas out.now.corners res.old res.new result }
 {

@@ -50,7 +50,8 @@ fn corner_along(patch: Patch, axis: Axis, fixed: f64, x: f64) -> Corner
 }
 
 // One side from row `start` on, as far as there is room, along its rungs forward or backward. No boundary
-// has more than 1,024 corners, so places can be counted.
+// has more than 1,024 corners, so places can be counted. `back` is a flag and no iterator: the definition
+// of a side has it, and what a generic iterator gives would be a contract of its own.
 fn put_side(
     patch: Patch,
     axis: Axis,
