@@ -1,7 +1,7 @@
 -- What each function of the module `root` needs.
 use Rattle.std.proofs.Common.{◌≡◌, ℕ, zero, suc, ◌+◌, ◌-◌, ◌*◌, ◌/◌, ◌%◌, ◌^◌, ◌<◌, ◌≤◌, true, false, not, T, sym, refl, ap, ◌∙◌, subst, true≢false, le_trans, le_of_eq, lt_of_lt_of_le, lt_of_le_of_lt, le_of_lt, mul-le-mul_right, mul_assoc, mul_comm, div-lt_iff_lt-mul, lt_of_mul-lt-mul_right, mul-lt-mul_of_pos_right, mul-pos, mul_right_comm, mul-div_cancel, sub-one, arith, ltb→lt, pow_pos, pow_mono, pow-add, ltb-false, ltb-true}
 use mathlib.Core.Bool.{false≢true}
-use lib.Ieee.{Float, nan, inf, fin, binary64, up, down, size, to_bits, of_bits, fits, is_nan, lt, div}
+use lib.Ieee.{Float, nan, inf, fin, binary64, up, down, size, to_bits, of_bits, fits, is_nan, lt}
 use lib.Ieee.Digits.{size-le}
 use lib.Ieee.Exact.{HasValue}
 use lib.Ieee.Fits.{down_pos, kept-lt}
