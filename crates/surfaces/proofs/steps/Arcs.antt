@@ -1,5 +1,5 @@
 -- Steps along v by those of an arc, where there is one.
-use Rattle.std.proofs.Common.{◌≡◌, ℕ, max, refl}
+use Rattle.std.proofs.Common.{◌≡◌, max, refl}
 use Rattle.std.specs.Prelude.{Float, unwrap_or}
 use Rattle.numbers.specs.Rounded.{◌⊖◌}
 use Rattle.surfaces.specs.declared.options.Resolved.{Resolved}

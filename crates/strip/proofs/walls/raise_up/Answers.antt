@@ -1,7 +1,6 @@
 use Rattle.std.proofs.Common.{sym, ap, inl, ◌∙◌, arith}
-use Rattle.surfaces.specs.Rungs.{kept_left}
 use Rattle.surfaces.proofs.knots.Walk.{left-few}
-use Rattle.strip.proofs.walls.Raising.{raising, raising_full, raising_end, raising_turn}
+use Rattle.strip.proofs.walls.Raising.{raising_full, raising_turn}
 use Rattle.strip.proofs.walls.raise_up.Goals as goal
 
 pub loop-k-init-derived : goal.loop-k-init-derived
