@@ -11,7 +11,7 @@ use Rattle.tables.specs.declared.moves.Move.{Move}
 use Rattle.tables.specs.declared.moves.Move.TheVariants.{Up, Down}
 use Rattle.rings.specs.Choices.{first_of, nearest}
 use Rattle.rings.specs.Turns.{begin_ring_at, recut_at, align_at}
-use Rattle.rings.specs.Starts.{less_u, raised, align_cuts, slide_to_cut, first_for, later_for, later_by}
+use Rattle.rings.specs.Starts.{bare, less_u, raised, align_cuts, slide_to_cut, first_for, later_for, later_by}
 use Rattle.rings.proofs.Carried.{map-begin_ring_at, map-recut_at, map-align_at, map-unless_zero}
 use Rattle.rings.proofs.Lengths.{length-begin_ring_at, length-align_at, length-unless_zero}
 
@@ -69,6 +69,10 @@ module _ {A : Type 0} (u : A → Float) (slid : Move → A → A) (period cut : 
       aligned : r₁ ≡ align_at (slid (Up period)) (slid (Down (branch_shift (get_or (map u r) (nearest period cut (map u r)) nan) cut period))) (nearest period cut (map u r)) r
       aligned = e₁ ∙ (λ i. align_at (slid (Up period)) (slid (Down (by i))) (k_is i) r)
 
+us-bare : (u : List Float) → us (bare u) ≡ u
+us-bare [] = refl
+us-bare (x ∷ u) = ap (λ l. x ∷ l) (us-bare u)
+
 module _ (period cut : Float) where
   -- of corners it is the definition
   of_corners : {A : Type 0} (r : Corners A) → later_by (λ (c : Corner A). c.u) (λ m. move_u (moved_by m)) period cut r ≡ later_for period cut r
@@ -79,6 +83,10 @@ module _ (period cut : Float) where
   us_later {A} r =
       ap us (sym (of_corners r))
       ∙ map-later_by (λ (c : Corner A). c.u) (λ (c : Corner A). c.u) (λ u. u) (λ m. move_u (moved_by m)) moved_by (λ c. refl) (λ m c. refl) period cut r
+
+  -- of u alone, as of a ring whose corners carry nothing else
+  pub later_bare : (u : List Float) → us (later_for period cut (bare u)) ≡ later_by (λ u. u) moved_by period cut u
+  later_bare u = us_later (bare u) ∙ ap (later_by (λ u. u) moved_by period cut) (us-bare u)
 
   pub rows_later : (t : List Held) → rows (later_by (λ (c : Held). c.u) (λ m. held_u (moved_by m)) period cut t) ≡ later_for period cut (rows t)
   unfolding rows
