@@ -6,6 +6,7 @@ use Rattle.numbers.proofs.Units.{units_exact, units_order, units_sum}
 use Rattle.numbers.proofs.Errors.{round_error, add_error}
 use Rattle.surfaces.proofs.knots.Rising.{stretch_of, sort_changes_nothing}
 use Rattle.full_domain.proofs.boundary.Rising.{whole_rise}
+use Rattle.rings.proofs.ByU.{later_bare}
 use Rattle.bands.proofs.Clear.{clear_rings}
 use Rattle.bands.proofs.Walls.{band-kept}
 use Rattle.values.specs.Meanings.{Meanings}
@@ -25,5 +26,6 @@ meanings = record {
   merge_even = λ lo hi n v w h few. sort_changes_nothing lo hi n (stretch_of lo hi v w h) few;
   whole_rungs = whole_rise;
   bands = band-kept;
+  later_bare = later_bare;
   clear_bands = clear_rings;
 }

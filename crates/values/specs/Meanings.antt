@@ -1,5 +1,5 @@
 -- What is stated of the definitions of `numbers`, `surfaces`, `full_domain` and `bands` beyond the values that document 01 stars: listed here so that a proof of it cannot be deleted alone.
-use Rattle.std.specs.Prelude.{ℕ, ◌^◌, ◌≤◌, ◌≡◌, Bool, true, false, T, Float}
+use Rattle.std.specs.Prelude.{ℕ, ◌^◌, ◌≤◌, ◌≡◌, Bool, true, false, T, Float, List}
 use Rattle.std.specs.Float.Ieee.{le}
 use Rattle.numbers.specs.WholeNumbers.{RoundMeans, FloorMeans, CeilMeans}
 use Rattle.numbers.specs.Nearest.{SqrtMeans}
@@ -14,6 +14,9 @@ use Rattle.surfaces.specs.declared.options.Resolved.{Resolved}
 use Rattle.surfaces.specs.declared.steps.Axis.{Axis}
 use Rattle.surfaces.specs.declared.surface.Surface.{Surface}
 use Rattle.full_domain.specs.Boundary.{is_whole, rungs_of}
+use Rattle.tables.specs.Corners.{us}
+use Rattle.tables.specs.Moves.{moved_by}
+use Rattle.rings.specs.Starts.{bare, later_for, later_by}
 use Rattle.bands.specs.Band.{outer}
 use Rattle.bands.specs.Columns.{setting_of, setting_with}
 use Rattle.bands.specs.Given.{Given}
@@ -42,6 +45,8 @@ pub record Meanings : Type 0 where
   -- 02, N2, moves no band: with the divisions kept for its rungs, as before, each has the same outer loop. The holes take no rung.
   pub bands : (frame : Frame) (surface : Surface) (options : Resolved) (period : Float) (sense : Bool) (given : Given Vec3)
       → outer (setting_of frame surface options period sense) given ≡ outer (setting_with kept_divisions frame surface options period sense) given
+  -- What is tried on the u of a later ring alone is what a ring of corners comes to that carry nothing else.
+  pub later_bare : (period cut : Float) (u : List Float) → us (later_for period cut (bare u)) ≡ later_by (λ u. u) moved_by period cut u
   -- Rings are cut anew (02, N4) only where a hole lies across the seam: elsewhere `reseam` leaves both as they are.
   pub clear_bands : (period : Float) (face : Face Vec3) → across_seam period face ≡ false
       → ((reseam period face).first ≡ face.first) × ((reseam period face).later ≡ face.later)
