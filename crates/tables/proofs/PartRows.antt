@@ -1,16 +1,13 @@
 -- A part of a table: changed where it stands, put into another table, and the loops of a face that stand one behind the other.
-use Rattle.std.proofs.Common.{◌≡◌, ℕ, ◌+◌, ◌-◌, ◌≤◌, ◌<◌, min, List, [], ◌++◌, length, get_or, take, drop, sym, ap, ◌∙◌, arith}
-use Rattle.std.proofs.lemmas.List.{get_or_past}
+use Rattle.std.proofs.Common.{◌≡◌, ℕ, ◌-◌, List, ◌++◌, take, drop, ap, ◌∙◌}
 use Rattle.numbers.specs.declared.math.Vec3.{Vec3}
 use Rattle.lists.specs.Parts.{on_part, part_of}
 use Rattle.lists.specs.Placed.{placed}
-use Rattle.lists.specs.Pieces.{pieces}
 use Rattle.lists.proofs.Maps.{map-placed}
-use Rattle.lists.proofs.Pieces.{Cutting, cutting, cutting_turn, cutting_piece, length-pieces}
 use Rattle.tables.specs.Corners.{Corners}
 use Rattle.tables.specs.Rows.{rows, corner_of}
 use Rattle.tables.specs.declared.corners.Corner.{Corner as Held}
-use Rattle.tables.proofs.Rows.{length-rows, rows-none, rows_take, rows_drop, rows_part, rows_append}
+use Rattle.tables.proofs.Rows.{rows_take, rows_drop, rows_part, rows_append}
 
 -- ---- changed where it stands
 

@@ -1,5 +1,5 @@
 use Rattle.std.proofs.Common.{ap, ◌∙◌, arith, get_or}
-use Rattle.lists.proofs.Mapping.{mapping, mapping_turn, mapping_end}
+use Rattle.lists.proofs.Mapping.{mapping_turn, mapping_end}
 use Rattle.tables.specs.Moves.{moved_by}
 use Rattle.tables.specs.Rows.{rows}
 use Rattle.tables.proofs.Rows.{absent, put-v, rows-each-v}

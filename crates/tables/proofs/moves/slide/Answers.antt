@@ -1,5 +1,4 @@
-use Rattle.std.proofs.Common.{arith}
-use Rattle.lists.proofs.Mapping.{mapping, mapping_turn, mapping_end}
+use Rattle.lists.proofs.Mapping.{mapping_turn}
 use Rattle.tables.proofs.moves.slide.Goals as goal
 
 pub loop-x-preserved : goal.loop-x-preserved
