@@ -1,4 +1,5 @@
 pub mod Rows
+pub mod ColumnLaws
 pub mod PartRows
 pub mod Unless
 pub mod Steps

@@ -2,6 +2,7 @@
 // loops of a face, which stand one behind the other. Slices of any length.
 #![tactic(auto)]
 
+pub mod columns;
 pub mod copies;
 pub mod corners;
 pub mod loops;
