@@ -1,5 +1,5 @@
 use Rattle.std.proofs.Common.{rules}
-use Rattle.laying.proofs.EachHole.{holes_moving, holes_moving_turn, holes_moving_end}
+use Rattle.laying.proofs.EachHole.{holes_moving_turn, holes_moving_end}
 use Rattle.laying.proofs.holes.onto_all.Goals as goal
 
 pub loop-points-preserved : goal.loop-points-preserved

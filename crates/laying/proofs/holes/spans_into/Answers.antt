@@ -1,4 +1,4 @@
-use Rattle.std.proofs.Common.{map, ap, sym, ◌∙◌, arith}
+use Rattle.std.proofs.Common.{map, ap, sym, arith}
 use Rattle.lists.specs.Pieces.{pieces}
 use Rattle.lists.proofs.Remaining.{remaining, remaining_turn, remaining_end}
 use Rattle.tables.specs.Corners.{us}
