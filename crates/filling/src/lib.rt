@@ -103,8 +103,8 @@ fn falls(travel: i32) -> bool
 }
 
 // The band between two rings into the front of t, and the holes onto its strip where they stand. The
-// arrays have places for what 16 holes cover, for the u of both rings, and for a wall of 512 points:
-// a strip of more than 1,024 points is too long.
+// arrays have places for what 16 holes cover, for the columns of both rings, and for a wall of 512
+// points: a strip of more than 1,024 points is too long.
 fn band_between(
     first: &mut [Corner],
     later: &mut [Corner],
@@ -125,11 +125,17 @@ fn band_between(
         low: 0.0,
         high: 0.0,
     }; 16];
-    let mut trial = [0.0; 512];
+    // A trial is worked on copies of a ring's parameters and positions, in 512 places each: document 01
+    // names these arrays. They are lent to `take_start` alone.
+    let mut u = [0.0; 512];
+    let mut v = [0.0; 512];
+    let mut x = [0.0; 512];
+    let mut y = [0.0; 512];
+    let mut z = [0.0; 512];
     let mut wall = [ORIGIN; 512];
     lay_rings(first, later, first_falls, later_falls, period);
     reseam(first, later, holes, counts, &mut spans, period);
-    take_start(first, later, &mut trial, period);
+    take_start(first, later, &mut u, &mut v, &mut x, &mut y, &mut z, period);
     let with1 = goes_with(sense, first_falls);
     let with2 = goes_with(sense, later_falls);
     close_ordered(first, later, with1, with2, patch, period, &mut wall, t)

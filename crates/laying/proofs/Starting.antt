@@ -1,24 +1,20 @@
 -- Both rings begun where the search finds it.
-use Rattle.std.proofs.Common.{◌≡◌, ℕ, ◌+◌, ◌≤◌, ◌<◌, Bool, cond, List, length, map, sym, ap, ◌∙◌, arith}
+use Rattle.std.proofs.Common.{◌≡◌, ℕ, ◌+◌, ◌≤◌, ◌<◌, Bool, cond, List, length, take, sym, ap, ◌∙◌, arith}
 use borrow.Author.Tests.{lt-ltb, le-ltb}
 use lib.Ieee.{Float}
+use lib.Seq.{length-take-le}
 use Rattle.numbers.specs.declared.math.Vec3.{Vec3}
 use Rattle.tables.specs.Corners.{Corners, us}
-use Rattle.tables.specs.Moves.{moved_by}
 use Rattle.tables.specs.declared.corners.Corner.{Corner as Held}
-use Rattle.tables.specs.declared.moves.Move.TheVariants.{Up}
-use Rattle.tables.specs.Rows.{rows, held_u}
+use Rattle.tables.specs.Rows.{rows}
 use Rattle.tables.proofs.Rows.{length-rows}
 use Rattle.rings.specs.Choices.{first_of}
-use Rattle.rings.specs.Turns.{begin_ring_at}
-use Rattle.rings.specs.Starts.{first_for, later_for, later_by, start}
-use Rattle.rings.proofs.ByU.{rows-begin_ring_at, rows_later}
-use Rattle.rings.proofs.ReadRows.{us_of_rows}
+use Rattle.rings.specs.Starts.{first_for, later_for, start}
 use Rattle.starts.specs.declared.trials.Search.{Search}
 use Rattle.starts.specs.Search.{searched, search_within}
 use Rattle.bands.specs.Rings.{Face, started}
 use Rattle.bands.specs.Rings as bands
-use Rattle.laying.specs.Held.{rings_in, started_within}
+use Rattle.laying.specs.Held.{room_in, rings_in, started_within}
 
 module _ (period : Float) (room : ℕ) (first later : List Held) where
   pub not_started : room < length first + length later → (holes : List (Corners Vec3)) → rings_in first later holes ≡ started_within period room (rings_in first later holes)
@@ -75,14 +71,17 @@ module _ (period : Float) (room : ℕ) (first later : List Held) where
   }
 
   pub start-taken : (r : Search) → r ≡ search_within period room (rows first) (rows later) → length first + length later ≤ room
-      → (first₁ later₁ : List Held) (cut : Float) → first₁ ≡ begin_ring_at (held_u (moved_by (Up period))) r.start first → cut ≡ first_of (map (λ (c : Held). c.u) first₁)
-      → later₁ ≡ later_by (λ (c : Held). c.u) (λ m. held_u (moved_by m)) period cut later → Taken r (rows first₁) (rows later₁)
-  start-taken r r_is h first₁ later₁ cut ef ec el =
-      let first_is : rows first₁ ≡ first_for period r.start (rows first) = ap rows ef ∙ rows-begin_ring_at (moved_by (Up period)) r.start first in
-      let cut_is : cut ≡ first_of (us (rows first₁)) = ec ∙ ap first_of (us_of_rows first₁) in
-      let later_is : rows later₁ ≡ later_for period cut (rows later) = ap rows el ∙ rows_later period cut later in
-      record {
-        value = r_is;
-        first_after = first-started h r r_is (rows first₁) (rows later₁) cut first_is cut_is later_is;
-        later_after = later-started h r r_is (rows first₁) (rows later₁) cut first_is cut_is later_is;
-      }
+      → (first₁ later₁ : Corners Vec3) (cut : Float) → first₁ ≡ first_for period r.start (rows first) → cut ≡ first_of (us first₁)
+      → later₁ ≡ later_for period cut (rows later) → Taken r first₁ later₁
+  start-taken r r_is h first₁ later₁ cut ef ec el = record {
+    value = r_is;
+    first_after = first-started h r r_is first₁ later₁ cut ef ec el;
+    later_after = later-started h r r_is first₁ later₁ cut ef ec el;
+  }
+
+-- the room that the code finds
+pub searched_in_room : (period : Float) (first later : Corners Vec3) (u v x y z : List Float) (room : ℕ) (r : Search) → room ≡ room_in u v x y z
+    → r ≡ search_within period (length (take room u)) first later → r ≡ search_within period (room_in u v x y z) first later
+searched_in_room period first later u v x y z room r e r_is =
+    let h : room ≤ length u = omega arith in
+    r_is ∙ ap (λ (j : ℕ). search_within period j first later) (length-take-le room u h ∙ e)

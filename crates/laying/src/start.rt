@@ -3,35 +3,110 @@ ghost use Rattle.std.specs.Prelude.{◌≡◌, List, length};
 ghost use Rattle.numbers.specs.declared.math.Vec3.{Vec3};
 ghost use Rattle.tables.specs.Corners.{Corners};
 ghost use Rattle.tables.specs.Rows.{rows};
+ghost use Rattle.rings.specs.Starts.{first_for, later_for};
 ghost use Rattle.starts.specs.Search.{search_within};
-ghost use Rattle.laying.specs.Held.{rings_in, started_within};
+ghost use Rattle.laying.specs.Held.{room_in, rings_in, started_within, EachAsLong};
 
-use rings::choices::first_of;
-use rings::moves::begin_ring_at;
+use rings::choices::{first_of, nearest};
+use rings::moves::{align_at, begin_ring_at};
 use starts::later_for;
 use starts::trials::{Search, search_tables};
+use tables::columns::{columns_into, rows_from};
 use tables::corners::Corner;
 use tables::moves::Move;
 
+// The first ring, begun at its point k on a copy of as many places. What a corner carries besides its
+// u is turned at the same point, and stays.
+fn take_first(
+    first: &mut [Corner],
+    u: &mut [f64],
+    v: &mut [f64],
+    x: &mut [f64],
+    y: &mut [f64],
+    z: &mut [f64],
+    k: usize,
+    period: f64,
+)
+    requires { EachAsLong (length first.old) u.old v.old x.old y.old z.old }
+    ensures { rows first.new ≡ first_for period k (rows first.old) }
+{
+    columns_into(first, u, v, x, y, z);
+    begin_ring_at(u, k, Move::Up(period));
+    begin_ring_at(v, k, Move::Stay);
+    begin_ring_at(x, k, Move::Stay);
+    begin_ring_at(y, k, Move::Stay);
+    begin_ring_at(z, k, Move::Stay);
+    rows_from(first, u, v, x, y, z);
+}
+
+// The later ring, put to the cut on a copy of as many places.
+fn take_later(
+    later: &mut [Corner],
+    u: &mut [f64],
+    v: &mut [f64],
+    x: &mut [f64],
+    y: &mut [f64],
+    z: &mut [f64],
+    cut: f64,
+    period: f64,
+)
+    requires { EachAsLong (length later.old) u.old v.old x.old y.old z.old }
+    ensures { rows later.new ≡ later_for period cut (rows later.old) }
+{
+    columns_into(later, u, v, x, y, z);
+    let near = nearest(u, cut, period);
+    later_for(u, cut, period);
+    align_at(v, near, Move::Stay, Move::Stay);
+    align_at(x, near, Move::Stay, Move::Stay);
+    align_at(y, near, Move::Stay, Move::Stay);
+    align_at(z, near, Move::Stay, Move::Stay);
+    rows_from(later, u, v, x, y, z);
+}
+
 // Starts k of the first ring are tried from 0 on copies of both rings' u, and the rings begun at the
-// one that is taken. `trial` is scratch: where it has no room for the u of both rings, the rings stay
-// and no start is tried.
+// one that is taken. u, v, x, y and z are scratch: where the shortest has no room for both rings, the
+// rings stay and no start is tried.
 pub fn take_start(
     first: &mut [Corner],
     later: &mut [Corner],
-    trial: &mut [f64],
+    u: &mut [f64],
+    v: &mut [f64],
+    x: &mut [f64],
+    y: &mut [f64],
+    z: &mut [f64],
     period: f64,
 ) -> Search
-    ensures value { result ≡ search_within period (length trial.old) (rows first.old) (rows later.old) }
-    ensures first_after { (holes : List (Corners Vec3)) → rows first.new ≡ (started_within period (length trial.old) (rings_in first.old later.old holes)).first }
-    ensures later_after { (holes : List (Corners Vec3)) → rows later.new ≡ (started_within period (length trial.old) (rings_in first.old later.old holes)).later }
+    ensures value { result ≡ search_within period (room_in u.old v.old x.old y.old z.old) (rows first.old) (rows later.old) }
+    ensures first_after { (holes : List (Corners Vec3)) → rows first.new ≡ (started_within period (room_in u.old v.old x.old y.old z.old) (rings_in first.old later.old holes)).first }
+    ensures later_after { (holes : List (Corners Vec3)) → rows later.new ≡ (started_within period (room_in u.old v.old x.old y.old z.old) (rings_in first.old later.old holes)).later }
 {
-    let found = search_tables(trial, first, later, period);
-    if trial.len() < first.len() + later.len() {
+    let room = u.len().min(v.len()).min(x.len().min(y.len().min(z.len())));
+    let found = search_tables(&mut u[..room], first, later, period);
+    let n = first.len();
+    let m = later.len();
+    if room < n + m {
         return found;
     }
-    begin_ring_at(first, found.start, Move::Up(period));
+    take_first(
+        first,
+        &mut u[..n],
+        &mut v[..n],
+        &mut x[..n],
+        &mut y[..n],
+        &mut z[..n],
+        found.start,
+        period,
+    );
     let cut = first_of(first);
-    later_for(later, cut, period);
+    take_later(
+        later,
+        &mut u[..m],
+        &mut v[..m],
+        &mut x[..m],
+        &mut y[..m],
+        &mut z[..m],
+        cut,
+        period,
+    );
     found
 }
