@@ -173,10 +173,10 @@ module _ {path : Path} {counts : List ℕ} {areas : List Float} {t : List Held} 
         let l : length (rows t) < sum counts = omega arith in
         kept (and_right (header_holds counts) _ (and_right (length_of counts ≤? length out) _ (and_right (length counts ≤? length areas) _ (lt-leb (sum counts) _ l))))
 
-    pub done : Fitting out counts areas size.corners t → {out' : List ℕ} {p : ℕ} → p ≡ path_of path
-        → out' ≡ front (encode (table_result p counts areas (rows t))) out → WrittenTo path counts areas t out out' (Some size.length)
+    pub done : Fitting out counts areas size.corners t → {out' : List ℕ}
+        → out' ≡ front (encode (table_result (path_of path) counts areas (rows t))) out → WrittenTo path counts areas t out out' (Some size.length)
     unfolding filled_if result_fits
-    done w ep eo =
+    done w eo =
         let all : fits counts areas t out ≡ true =
         rw (s.held, le-leb (length_of counts) (length out) w.long, le-leb (length counts) (length areas) w.an_area_each, le-leb (sum counts) _ (rw w.corners at w.room)) in
-        record { answer = rw (all, s.long); is = rw all (eo ∙ rw ep) }
+        record { answer = rw (all, s.long); is = rw all eo }

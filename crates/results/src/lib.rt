@@ -76,13 +76,16 @@ fn put(out: &mut [u8], at: usize, bytes: &[u8])
 }
 
 // Version, path, holes, zero.
-fn put_head(out: &mut [u8], path: u8, holes: u8)
+fn put_head(out: &mut [u8], path: Path, holes: u8)
     requires { 4 ≤ length out.old }
-    ensures { out.new ≡ sets out.old 0 (1 ∷ path ∷ holes ∷ 0 ∷ []) }
+    ensures { out.new ≡ sets out.old 0 (1 ∷ path_of path ∷ holes ∷ 0 ∷ []) }
 {
-    put(out, 0, &[1, path, holes, 0]);
+    put(out, 0, &[1, u8::from(path), holes, 0]);
 }
 
+// This and the three after it are four loops of one shape. They share `put` and the law `Storing` of
+// proofs/Stores: one function with a closure for what is stored of each would be no plainer, as the
+// closures would give arrays of different lengths.
 fn put_counts(out: &mut [u8], at: usize, counts: &[usize])
     requires { at + 2 * length counts.now ≤ length out.old }
     ensures { out.new ≡ sets out.old at (row u16 counts.now) }
@@ -121,9 +124,9 @@ fn put_positions(out: &mut [u8], at: usize, t: &[Corner])
 }
 
 // The whole record, where all fits: m is the number of corners.
-fn put_result(out: &mut [u8], path: u8, loops: Loops, areas: &[f64], m: usize)
+fn put_result(out: &mut [u8], path: Path, loops: Loops, areas: &[f64], m: usize)
     requires { Fitting out.old loops.counts.now areas.now m loops.corners.now }
-    ensures { out.new ≡ front (encode (table_result path loops.entry.counts.now areas.now (rows loops.entry.corners.now))) out.old }
+    ensures { out.new ≡ front (encode (table_result (path_of path) loops.entry.counts.now areas.now (rows loops.entry.corners.now))) out.old }
 {
     let n = loops.counts.len();
     let t = &loops.corners[..m];
@@ -149,6 +152,6 @@ pub fn write_result(path: Path, loops: Loops, areas: &[f64], out: &mut [u8]) -> 
     if loops.corners.len() < size.corners {
         return None;
     }
-    put_result(out, u8::from(path), loops, areas, size.corners);
+    put_result(out, path, loops, areas, size.corners);
     Some(size.length)
 }

@@ -29,4 +29,4 @@ returns c = whole.done
     (whole.sized c.in_ok-size.ensures)
     (whole.fitting (whole.sized c.in_ok-size.ensures) c.if-out-size.false c.if-areas-loops.false (sym (length-rows c.args.loops.corners.now))
     c.if-loops-size.false)
-    c.from.ensures c.put_result.ensures
+    c.put_result.ensures
