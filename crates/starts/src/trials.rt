@@ -41,24 +41,6 @@ fn later_into(u: &mut [f64], later: &[Corner], cut: f64, period: f64)
     later_for(u, cut, period);
 }
 
-#[tactic(auto, using(tables::proofs::Steps::row_steps))]
-fn try_first(trial: &mut [f64], first: &[Corner], k: usize, period: f64)
-    requires { length (rows first.now) ≤ length trial.old }
-    ensures { trial.new ≡ placed 0 (us (first_for period k (rows first.now))) trial.old }
-{
-    let end = first.len();
-    first_into(&mut trial[0..end], first, k, period);
-}
-
-#[tactic(auto, using(tables::proofs::Steps::row_steps))]
-fn try_later(trial: &mut [f64], from: usize, later: &[Corner], cut: f64, period: f64)
-    requires { from + length (rows later.now) ≤ length trial.old }
-    ensures { trial.new ≡ placed from (us (later_for period cut (rows later.now))) trial.old }
-{
-    let end = from + later.len();
-    later_into(&mut trial[from..end], later, cut, period);
-}
-
 // Whether the start k serves. `trial` is scratch: it holds the u of this trial, or a part of them,
 // afterwards.
 #[tactic(auto, using(tables::proofs::Steps::row_steps))]
@@ -66,19 +48,19 @@ fn serves(trial: &mut [f64], first: &[Corner], later: &[Corner], k: usize, perio
     requires { length (rows first.now) + length (rows later.now) ≤ length trial.old }
     ensures { result ≡ serves period (rows first.now) (rows later.now) k }
 {
-    let n = first.len();
-    let end = n + later.len();
-    try_first(trial, first, k, period);
-    if begins_backward(&trial[0..n]) {
+    let (begun, rest) = trial.split_at_mut(first.len());
+    first_into(begun, first, k, period);
+    if begins_backward(begun) {
         return false;
     }
-    let cut = first_of(&trial[0..n]);
-    try_later(trial, n, later, cut, period);
-    let both = &trial[..];
-    serve(&both[0..n], &both[n..end], period)
+    let cut = first_of(begun);
+    let put = &mut rest[..later.len()];
+    later_into(put, later, cut, period);
+    serve(begun, put, period)
 }
 
-// The first start that serves, and how many there are where none does.
+// The first start that serves, and how many there are where none does. It is no `Option`: the definition
+// answers so, as what is asked of it is how many starts were tried.
 fn first_serving(trial: &mut [f64], first: &[Corner], later: &[Corner], period: f64) -> usize
     requires { length (rows first.now) + length (rows later.now) ≤ length trial.old }
     ensures { result ≡ first_serving period (rows first.now) (rows later.now) }
