@@ -17,16 +17,12 @@ pub fn is_ring(i: usize, a: usize, b: usize) -> bool
 pub fn count_holes(n: usize, a: usize, b: usize) -> usize
     ensures { result ≡ length (others a b (places n)) }
 {
-    let mut k = 0;
-    for i in 0..n {
-        if !is_ring(i, a, b) {
-            k += 1;
-        }
-    }
-    k
+    (0..n).filter(|i| !is_ring(*i, a, b)).count()
 }
 
-// The values of the holes, as their counts or their areas, into dst from `at` on.
+// The values of the holes, as their counts or their areas, into dst from `at` on. The place is counted by
+// hand: with `iter_mut` and an adapter the proof cannot close, as nothing is known then of what was
+// written.
 pub fn pick<T: Copy>(dst: &mut [T], at: usize, src: &[T], a: usize, b: usize)
     ensures { dst.new ≡ placed at (others a b src.now) dst.old }
 {

@@ -25,7 +25,9 @@ pub fn count_rows(loops: Loops, a: usize, b: usize) -> usize
     sum
 }
 
-// The holes' rows, one loop behind the other, into out from row `at` on.
+// The holes' rows, one loop behind the other, into out from row `at` on. The place is counted by hand, which
+// is no plainer otherwise: an iterator over `out` that gives parts of those lengths would be one of our
+// own, for this one loop.
 pub fn pick_holes(out: &mut [Corner], at: usize, loops: Loops, a: usize, b: usize)
     ensures { rows out.new ≡ placed at (flatten (others a b (loops_in loops.entry))) (rows out.old) }
 {

@@ -1,7 +1,7 @@
 -- One value of each loop but the two rings, put one behind the other.
-use Prim.Native.Nat.{ℕ, suc, ◌+◌, ◌≤◌, ◌<◌}
+use Prim.Native.Nat.{ℕ, zero, suc, ◌+◌, ◌≤◌, ◌<◌}
 use mathlib.Core.Path.{◌≡◌, refl, sym, ap, ◌∙◌}
-use mathlib.Core.Bool.{Bool, true, false, cond}
+use mathlib.Core.Bool.{Bool, true, false, not, cond}
 use mathlib.Core.List.{List, ◌∷◌}
 use native.Mathlib.Numerals.{add-one}
 use native.Mathlib.Omega.{arith}
@@ -10,7 +10,8 @@ use lib.Dec.{leb}
 use lib.ListN.{length, get_or, drop, set, length-drop}
 use lib.Seq.{drop-cons}
 use Rattle.lists.specs.Placed.{placed}
-use Rattle.lists.specs.Places.{places}
+use Rattle.lists.specs.Places.{places_from, places}
+use Rattle.std.specs.List.{filter, range_with_len}
 use Rattle.lists.proofs.Filling.{Filling, filling, filling_turn, filling_end}
 use Rattle.lists.proofs.Placed.{placed_short}
 use Rattle.lists.proofs.Places.{length-places}
@@ -72,19 +73,17 @@ module _ {A : Type 0} where
 
 -- ---- how many there are
 
-module _ (n a b : ℕ) where
-  abbrev pub Counting : ℕ → ℕ → Type 0
-  Counting k i = Passing (places n) a b k i
-
-  module _ (k i : ℕ) (c : Counting k i) (h : i < n) (t : Bool) (t_is : t ≡ is_ring a b i) where
-    pub counting_ring : t ≡ true → Counting k (i + 1)
-    counting_ring r = passing-ring (places n) a b 0 k i c (omega (arith, length-places n)) t t_is r
-
-    pub counting_hole : t ≡ false → Counting (k + 1) (i + 1)
-    counting_hole r = passing-hole (places n) a b 0 k i c (omega (arith, length-places n)) t t_is r
-
-  pub counting_end : (k i : ℕ) → Counting k i → n ≤ i → k ≡ length (others a b (places n))
-  counting_end k i c h = passing-end (places n) a b k i c (omega (arith, length-places n))
+-- of n numbers from i on, those that are no ring's
+pub holes_in_range : (a b i n : ℕ) → length (filter (λ j. not (is_ring a b j)) (range_with_len i n)) ≡ length (others_from a b i (places_from i n))
+unfolding others_from places_from
+holes_in_range a b i zero = refl
+holes_in_range a b i (suc n) = by (is_ring a b i) (rw (add-one i) (holes_in_range a b (suc i) n))
+  where
+    by : (t : Bool) → length (filter (λ j. not (is_ring a b j)) (range_with_len (i + 1) n)) ≡ length (others_from a b (suc i) (places_from (suc i) n))
+        → length (cond (not t) (i ∷ filter (λ j. not (is_ring a b j)) (range_with_len (i + 1) n)) (filter (λ j. not (is_ring a b j)) (range_with_len (i + 1) n)))
+        ≡ length (cond t (others_from a b (suc i) (places_from (suc i) n)) (i ∷ others_from a b (suc i) (places_from (suc i) n)))
+    by true rest = rest
+    by false rest = ap suc rest
 
 -- ---- picked
 

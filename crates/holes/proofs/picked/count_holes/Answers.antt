@@ -1,13 +1,15 @@
-use Rattle.holes.proofs.picked.Laws.{counting_ring, counting_hole, counting_end}
+use Rattle.std.proofs.Common.{rules, arith, ◌∙◌, not}
+use Rattle.std.proofs.lemmas.Iterator.{YieldsList-from_range}
+use Rattle.std.proofs.lemmas.Iterator.Consumers.{count_from_yields_List, YieldsList-from_filter}
+use borrow.Author.Tests.{tests}
+use Rattle.lists.specs.Places.{places}
+use Rattle.holes.specs.Others.{is_ring}
+use Rattle.holes.proofs.picked.Laws.{holes_in_range}
 use Rattle.holes.proofs.picked.count_holes.Goals as goal
-use Rattle.holes.proofs.picked.count_holes.Goals.{then-not-is_ring, else-not-is_ring}
-
-pub loop-i-preserved : goal.loop-i-preserved
-loop-i-preserved c =
-    elim c.if-not-is_ring.branch [
-      | then-not-is_ring w ↦ rw w.k-is (counting_hole _ _ _ _ _ c.loop-i.invariant c.loop-i-test.true _ c.is_ring.ensures w.if-not-is_ring.true)
-      | else-not-is_ring w ↦ rw w.k-is (counting_ring _ _ _ _ _ c.loop-i.invariant c.loop-i-test.true _ c.is_ring.ensures w.if-not-is_ring.false)
-    ]
 
 pub returns : goal.returns
-returns c = counting_end _ _ _ _ _ c.loop-i.invariant c.loop-i-test.false
+unfolding places
+returns c = count_from_yields_List _ _ c.count.ensures.ran
+    (YieldsList-from_filter _ (λ i. not (is_ring c.args.a c.args.b i)) (YieldsList-from_range 0 c.args.n c.args.n c.filter.ensures.source (omega arith)) c.filter.ensures.closure
+    (λ x b q k. search (rules, tests)))
+    ∙ holes_in_range c.args.a c.args.b 0 c.args.n
