@@ -37,13 +37,13 @@ module _ (counts : List ℕ) (r : Corners Vec3) (areas own : List Float) (b b' :
       let none : length b < length ls = omega arith in
       rw (lt-leb (length ls) (length b) none, ← own_areas) e
 
-  pub by_boxes : length counts ≤ length b' → (own_boxes : List Bounds) → own_boxes ≡ part_of 0 (length counts) b' → x ≡ outer_of own_boxes own → x ≡ outer_among ls areas (length b)
-  unfolding outer_among part_of
-  by_boxes h own_boxes o e =
+  pub by_boxes : length counts ≤ length b' → x ≡ outer_of (take (length counts) b') own → x ≡ outer_among ls areas (length b)
+  unfolding outer_among
+  by_boxes h e =
       let k = same-room in
       let l = length-pieces counts r in
       let w = length-map ls box_in in
       let room : length ls ≤ length b = omega arith in
       let count : length counts ≡ length (map box_in ls) = omega arith in
-      let found : own_boxes ≡ map box_in ls = o ∙ (λ i. take (count i) (written i)) ∙ front-placed (map box_in ls) b (omega arith) in
+      let found : take (length counts) b' ≡ map box_in ls = (λ i. take (count i) (written i)) ∙ front-placed (map box_in ls) b (omega arith) in
       rw (le-leb (length ls) (length b) room, ← own_areas, ← found) e

@@ -21,7 +21,8 @@ fn slack_of(boxes: &[Bounds]) -> f64
     largest * 1e-9
 }
 
-// The outermost ends of the boxes that some box can enclose, and the number of those that none can.
+// The outermost ends of the boxes that some box can enclose, and the number of those that none can. One
+// pass gives both: with a filter for each the boxes would be asked twice, and it would be no plainer.
 fn outermost_of(boxes: &[Bounds], slack: f64) -> Outermost
     ensures { result ≡ outermost_of slack boxes.now }
 {

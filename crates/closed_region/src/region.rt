@@ -23,5 +23,5 @@ pub fn closed_region(loops: Loops, areas: &[f64], boxes: &mut [Bounds]) -> usize
     if boxes.len() < n {
         return last_largest(part(areas, 0, n));
     }
-    outer_loop(part(boxes, 0, n), part(areas, 0, n))
+    outer_loop(&boxes[..n], part(areas, 0, n))
 }

@@ -4,7 +4,8 @@ ghost use Rattle.std.specs.Float.Ieee.{eq};
 ghost use Rattle.numbers.specs.Constants.{plus_zero};
 
 // Where the holes go: the middle of the outer loop, and the periods. The period of an open direction
-// is 0.0.
+// is 0.0 and not `None`: `hole_shift` asks whether a period is above 0.0, as the Rust does, and an `Option`
+// would be no plainer, as it would be taken apart to that real.
 #[derive(Clone, Copy)]
 pub struct Branch {
     pub umid: f64,

@@ -1,4 +1,4 @@
-use Rattle.std.proofs.Common.{map, ap, sym, ◌∙◌, arith}
+use Rattle.std.proofs.Common.{map, ap, sym, arith}
 use Rattle.std.proofs.lemmas.List.{length-map}
 use Rattle.lists.proofs.Remaining.{remaining, remaining_turn, remaining_end}
 use Rattle.lists.proofs.Placed.{placed_short}
