@@ -1,7 +1,8 @@
 -- Holes moved, tested and measured one after the other, where they stand in one table.
 use Prim.Native.Nat.{ℕ, ◌+◌, ◌-◌, ◌≤◌, ◌<◌, min}
 use mathlib.Core.Path.{◌≡◌, refl, sym, ap, ap₂, ◌∙◌}
-use mathlib.Core.Bool.{false, ◌||◌}
+use mathlib.Core.Bool.{Bool, ◌||◌}
+use Rattle.std.specs.List.{list_any}
 use mathlib.Core.List.{List, [], ◌∷◌, ◌++◌, map}
 use native.Mathlib.Omega.{arith}
 use lib.Ieee.{Float}
@@ -71,16 +72,10 @@ module _ (period lo : Float) where
 
   -- ---- the first hole that straddles ends the search
 
-  pub straddles-first : (hole : Corners Vec3) (holes : List (Corners Vec3)) → any_straddles period lo (hole ∷ holes) ≡ (straddles period lo (us hole) || any_straddles period lo holes)
+  pub any_of_holes : (holes : List (Corners Vec3)) → list_any (λ hole. straddles period lo (us hole)) holes ≡ any_straddles period lo holes
   unfolding any_straddles
-  straddles-first hole holes = refl
-
-  abbrev pub no_holes : List (Corners Vec3)
-  no_holes = []
-
-  pub straddles-none : any_straddles period lo no_holes ≡ false
-  unfolding any_straddles
-  straddles-none = refl
+  any_of_holes [] = refl
+  any_of_holes (hole ∷ holes) = ap (λ (b : Bool). straddles period lo (us hole) || b) (any_of_holes holes)
 
 -- ---- what each hole covers
 

@@ -1,5 +1,7 @@
 // All holes of a band, one behind the other in one table, and how many points each has. Where the counts
-// run past the end, a hole is what is left.
+// run past the end, a hole is what is left. A table that is changed is lent beside its counts and in no
+// struct, which would be no plainer: a function that takes a `&mut` inside a struct owes a clause on
+// what it gives back, and the counts are not changed.
 ghost use Rattle.std.specs.Prelude.{◌≡◌, map};
 ghost use Rattle.lists.specs.Pieces.{pieces, map_pieces};
 ghost use Rattle.lists.specs.Placed.{placed};
@@ -42,12 +44,8 @@ pub fn onto_all(t: &mut [Corner], counts: &[usize], lo: f64, period: f64)
 pub fn any_straddles(holes: Loops, lo: f64, period: f64) -> bool
     ensures { result ≡ any_straddles period lo (loops_in holes.entry) }
 {
-    for hole in holes {
-        if straddles(hole, lo, period) {
-            return true;
-        }
-    }
-    false
+    let mut left = holes;
+    left.any(|hole| straddles(hole, lo, period))
 }
 
 // What one hole covers, by its u.

@@ -1,4 +1,6 @@
-// Both rings with u rising, toward the least u of both.
+// Both rings with u rising, toward the least u of both. The rings are lent one beside the other and in no
+// struct, which would be no plainer: a function that takes a `&mut` inside a struct owes a clause on
+// what it gives back.
 ghost use Rattle.std.specs.Prelude.{◌≡◌, List};
 ghost use Rattle.numbers.specs.declared.math.Vec3.{Vec3};
 ghost use Rattle.loops.specs.Branch.{LandsNear};

@@ -1,4 +1,6 @@
-// The strip cut anew where a hole lies across its seam.
+// The strip cut anew where a hole lies across its seam. The rings and the holes, which are changed, are
+// lent beside the counts and in no struct, which would be no plainer: a function that takes a `&mut`
+// inside a struct owes a clause on what it gives back, and the counts are not changed.
 ghost use Rattle.std.specs.Prelude.{◌≡◌, ◌&&◌, map, ◌≤◌, length};
 ghost use Rattle.std.specs.Float.Ieee.{lt};
 ghost use Rattle.std.specs.Float.Ieee.Scale.{finite};

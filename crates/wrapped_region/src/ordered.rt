@@ -1,5 +1,7 @@
 // The strip between two rings, the lower one first: by their mean v, and on a torus by their travel
-// too, with the upper one lifted where the strip crosses v's seam.
+// too, with the upper one lifted where the strip crosses v's seam. The rings are lent one beside the
+// other and in no struct, which would be no plainer: a function that takes a `&mut` inside a struct owes
+// a clause on what it gives back.
 ghost use Rattle.std.specs.Prelude.{◌≡◌, Bool, map, if◌then◌else◌};
 ghost use Rattle.surfaces.specs.Domains.{v_period};
 ghost use Rattle.tables.specs.Corners.{move_v};

@@ -1,24 +1,15 @@
-use Rattle.std.proofs.Common.{◌||◌, Bool, ap, sym, ◌∙◌}
-use Rattle.tables.specs.Rows.{rows}
+use Rattle.std.proofs.Common.{rules, refl, ◌∙◌}
+use borrow.Author.Tests.{tests}
+use Rattle.std.proofs.lemmas.Iterator.Consumers.{YieldsList-from_first}
+use Rattle.std.proofs.lemmas.Iterator.Search.{any_from_yields_List}
+use Rattle.tables.specs.Corners.{us}
 use Rattle.tables.specs.Loops.{loops_in}
-use Rattle.bands.specs.Rings.{any_straddles}
-use Rattle.laying.proofs.EachHole.{straddles-first, straddles-none}
+use Rattle.tables.specs.Rows.{rows}
+use Rattle.rings.specs.Choices.{straddles}
+use Rattle.laying.proofs.EachHole.{any_of_holes}
 use Rattle.laying.proofs.holes.any_straddles.Goals as goal
 
-pub returns-then-straddles : goal.returns-then-straddles
-returns-then-straddles c =
-    let later = any_straddles c.args.period c.args.lo (loops_in c.next.new.self) in
-    let here = sym c.straddles.ensures ∙ c.if-straddles.true in
-    sym (sym c.loop-hole.invariant ∙ ap (any_straddles c.args.period c.args.lo) c.in-Some.ensures.steps
-    ∙ straddles-first c.args.period c.args.lo (rows c.in-Some.hole.now) (loops_in c.next.new.self) ∙ ap (λ (b : Bool). b || later) here)
-
-pub loop-hole-preserved : goal.loop-hole-preserved
-loop-hole-preserved c =
-    let later = any_straddles c.args.period c.args.lo (loops_in c.next.new.self) in
-    let here = sym c.straddles.ensures ∙ c.if-straddles.false in
-    sym (sym c.loop-hole.invariant ∙ ap (any_straddles c.args.period c.args.lo) c.in-Some.ensures.steps
-    ∙ straddles-first c.args.period c.args.lo (rows c.in-Some.hole.now) (loops_in c.next.new.self) ∙ ap (λ (b : Bool). b || later) here)
-
 pub returns : goal.returns
-returns c =
-    sym (sym c.loop-hole.invariant ∙ ap (any_straddles c.args.period c.args.lo) c.in-None.ensures.steps.0 ∙ straddles-none c.args.period c.args.lo)
+returns c = any_from_yields_List (λ hole. straddles c.args.period c.args.lo (us hole)) c.any.new.self _ _ c.any.ensures.ran
+    (YieldsList-from_first (λ one. rows one.now) loops_in (loops_in c.args.holes) refl) (λ hole b q k. search (rules, tests))
+    ∙ any_of_holes c.args.period c.args.lo (loops_in c.args.holes)
