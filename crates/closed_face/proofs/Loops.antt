@@ -1,12 +1,13 @@
 -- The loops that stand one behind the other in a list, found again by how many elements stand before them.
-use Prim.Native.Nat.{ℕ, zero, suc, ◌+◌, ◌-◌, ◌≤◌, ◌<◌, min}
+use Prim.Native.Nat.{ℕ, zero, suc, ◌+◌, ◌≤◌}
 use mathlib.Core.Path.{◌≡◌, refl, sym, ap, ◌∙◌}
 use mathlib.Core.List.{List, [], ◌∷◌, ◌++◌, map, flatten, append_assoc, append-nil}
-use native.Mathlib.Decide.{dec_le}
 use native.Mathlib.Numerals.{add-one}
 use native.Mathlib.Omega.{arith}
-use lib.ListN.{length, get_or, take, drop, length-append, length-take, length-drop, take-append-drop}
-use lib.Seq.{take_all, take-nil, take_at, drop_at}
+use lib.ListN.{length, get_or, take, drop, length-append, take-append-drop}
+use lib.Seq.{take_all, take_at, drop_at}
+use Rattle.std.specs.List.{sum_by}
+use Rattle.std.proofs.lemmas.List.Recursion.{is_sum_by}
 use Rattle.numbers.specs.declared.math.Vec3.{Vec3}
 use Rattle.lists.specs.Pieces.{pieces}
 use Rattle.lists.specs.Placed.{placed}
@@ -86,55 +87,18 @@ module _ {A : Type 0} where
 
 -- ---- where a loop begins
 
+pub sum_of_rows : (ls : List (Corners Vec3)) → sum_by length ls ≡ length (flatten ls)
+unfolding flatten
+sum_of_rows ls = sym (is_sum_by (λ ls. length (flatten ls)) length refl (λ l ls. length-append l (flatten ls)) ls)
+
 module _ (loops : Loops) (k : ℕ) where
-  front_rows : length (flatten (take k (loops_in loops))) ≤ length loops.corners.now
+  pub front_rows : length (flatten (take k (loops_in loops))) ≤ length loops.corners.now
   front_rows =
       let ls = loops_in loops in
       let whole = ap flatten (take-append-drop k ls) in
       let parts = ap length (flatten_append (take k ls) (drop k ls)) ∙ length-append (flatten (take k ls)) (flatten (drop k ls)) in
       let all = ap length whole in
       omega (arith, parts, all, pieces_fit loops.counts.now (rows loops.corners.now), length-rows loops.corners.now)
-
-  -- n loops are passed, which have `from` rows, and `left` are still to come
-  pub record Beginning (from n : ℕ) (left : List (Corners Vec3)) : Type 0 where
-    pub far : n ≤ k
-    pub sum : from + length (flatten (take (k - n) left)) ≡ length (flatten (take k (loops_in loops)))
-
-  pub beginning : Beginning 0 0 (loops_in loops)
-  beginning =
-      let all : k - 0 ≡ k = omega arith in
-      let sum = ap (λ (j : ℕ). length (flatten (take j (loops_in loops)))) all in
-      record { far = omega arith; sum = omega (arith, sum) }
-
-  module _ (from n : ℕ) (left : List (Corners Vec3)) (b : Beginning from n left) where
-    pub at_loop : n ≡ k → (from ≡ length (flatten (take k (loops_in loops)))) × (from ≤ length loops.corners.now)
-    unfolding flatten
-    at_loop e =
-        let none : k - n ≡ 0 = omega arith in
-        let sum = ap (λ (j : ℕ). from + length (flatten (take j left))) (sym none) ∙ b.sum in
-        (omega (arith, sum), omega (arith, sum, front_rows))
-
-    pub past_all : left ≡ [] → (from ≡ length (flatten (take k (loops_in loops)))) × (from ≤ length loops.corners.now)
-    unfolding flatten
-    past_all e =
-        let sum = ap (λ (l : List (Corners Vec3)). from + length (flatten (take (k - n) l))) (sym e) ∙ b.sum in
-        let none = ap (λ (l : List (Corners Vec3)). length (flatten l)) (take-nil {A = Corners Vec3} (k - n)) in
-        (omega (arith, sum, none), omega (arith, sum, none, front_rows))
-
-    module _ (one : Corners Vec3) (others : List (Corners Vec3)) (e : left ≡ one ∷ others) (before : n < k) where
-      passed : from + length one + length (flatten (take (k - (n + 1)) others)) ≡ length (flatten (take k (loops_in loops)))
-      unfolding flatten
-      passed =
-          let more : k - n ≡ suc (k - (n + 1)) = omega arith in
-          let sum = (λ i. from + length (flatten (take (sym more i) (sym e i)))) ∙ b.sum in
-          let both = length-append one (flatten (take (k - (n + 1)) others)) in
-          omega (arith, sum, both)
-
-      pub pass_room : from + length one ≤ length loops.corners.now
-      pass_room = omega (arith, passed, front_rows)
-
-      pub pass_loop : Beginning (from + length one) (n + 1) others
-      pass_loop = record { far = omega (arith, before); sum = passed }
 
 -- ---- one loop before the others, in a table
 

@@ -22,14 +22,7 @@ use tables::slices::part;
 fn begin_of(loops: Loops, k: usize) -> usize
     ensures { (result ≡ length (flatten (take k (loops_in loops.entry)))) × (result ≤ length loops.entry.corners.now) }
 {
-    let mut from = 0;
-    for (i, one) in loops.enumerate() {
-        if i == k {
-            return from;
-        }
-        from += one.len();
-    }
-    from
+    loops.take(k).map(|one| one.len()).sum()
 }
 
 // The rows of loop k, then those of all others in their order, into the front of out.

@@ -25,7 +25,9 @@ fn measured(t: &[Corner], start: usize, period: Option<f64>) -> LoopRecord
     }
 }
 
-// A record for each loop, and none where there are more loops than the list has records.
+// A record for each loop, and none where there are more loops than the list has records. Where a loop
+// starts is the sum of the lengths before it, kept along the way: summed anew for each loop it would be
+// no plainer, and the loops before would be passed again.
 pub fn measure_loops(loops: Loops, period: Option<f64>) -> [LoopRecord; 16]
     ensures { result ≡ placed 0 (records_from period 0 (loops_in loops.entry)) (replicate 16 no_loop) }
 {

@@ -72,7 +72,8 @@ fn below(spans: &[Span], x: f64) -> usize
 }
 
 // The holes in the order in which they begin, equals as they stand: from the last to the first, each
-// is put before the first behind it that does not begin below it.
+// is put before the first behind it that does not begin below it. Not by the library's `sort`, which is
+// stable but needs an allocator: by a rule of the project nothing here has a heap.
 pub fn sort_spans(spans: &mut [Span])
     ensures { spans.new ≡ sorted spans.old }
 {

@@ -32,7 +32,9 @@ pub struct TooMany {
 }
 
 // The first pass over a strip of n corners: stores those that differ from the one kept before them,
-// each when the next one that stays is found, and answers how many.
+// each when the next one that stays is found, and answers how many. The place and the one kept last stand
+// by themselves, and an iterator over neighbours would be no plainer: the one kept last is no neighbour
+// of the next, and is stored only when the next one that stays is found.
 fn keep_successive(
     lower: &[Corner],
     upper: &[Corner],
