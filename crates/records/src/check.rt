@@ -8,6 +8,7 @@ ghost use Rattle.records.specs.Refusals.{wrong_header, too_many_loops, ends_in_c
 ghost use Rattle.records.specs.Answers.{place_of, verdict_of};
 ghost use Rattle.records.specs.FirstLoop.{FirstLoop};
 
+use super::counted::Counted;
 use super::limits::Limits;
 use super::real_ranges::{Range, head_range, uv_range, xyz_range};
 use super::refusal::Refusal;
@@ -39,7 +40,8 @@ pub fn wrong_header(face: &[u8]) -> Option<usize>
     None
 }
 
-// 3
+// 3. That the header is there stands in two contracts of this file and in that of `loops`: they come before the
+// counts were tested, and a struct of their own, beside `Counted`, would be no plainer.
 #[tactic(auto, using(crate::proofs::Search::when_some), unfolding(crate::specs::Refusals::too_many_loops))]
 fn too_many_loops(face: &[u8], limits: Limits) -> Option<usize>
     requires { header_size ≤ length face.now }
@@ -60,14 +62,13 @@ fn ends_in_counts(face: &[u8]) -> Option<usize>
 }
 
 // The first loop that `refuses` says is refused, asked with its points and with the total up to its end.
-fn first_loop<F: Fn(usize, usize) -> bool>(face: &[u8], refuses: F) -> Option<usize>
-    requires counts_there { header_size + 2 * loops face.now ≤ length face.now }
-    requires callable { F.IsAlwaysCallable refuses }
-    ensures { FirstLoop (F.post refuses) face.now result }
+fn first_loop<F: Fn(usize, usize) -> bool>(face: Counted, refuses: F) -> Option<usize>
+    requires { F.IsAlwaysCallable refuses }
+    ensures { FirstLoop (F.post refuses) face.entry.bytes.now result }
 {
     let mut total = 0;
-    for k in 0..loops(face) {
-        let n = count_at(face, k);
+    for k in 0..loops(face.bytes) {
+        let n = count_at(face.bytes, k);
         total += n;
         if refuses(n, total) {
             return Some(k);
@@ -77,29 +78,26 @@ fn first_loop<F: Fn(usize, usize) -> bool>(face: &[u8], refuses: F) -> Option<us
 }
 
 // 4
-fn too_few_points(face: &[u8]) -> Option<usize>
-    requires { header_size + 2 * loops face.now ≤ length face.now }
-    ensures { place_of result ≡ too_few_points face.now }
+fn too_few_points(face: Counted) -> Option<usize>
+    ensures { place_of result ≡ too_few_points face.entry.bytes.now }
 {
     first_loop(face, |n, _| n < MIN_POINTS)
 }
 
 // 5
-fn too_many_points(face: &[u8], limits: Limits) -> Option<usize>
-    requires { header_size + 2 * loops face.now ≤ length face.now }
-    ensures { place_of result ≡ too_many_points limits face.now }
+fn too_many_points(face: Counted, limits: Limits) -> Option<usize>
+    ensures { place_of result ≡ too_many_points limits face.entry.bytes.now }
 {
     first_loop(face, |_, total| total > limits.points)
 }
 
 // 6, the record's length is not the one that its counts give
 #[tactic(auto, using(crate::proofs::Search::when_some), unfolding(crate::specs::Refusals::wrong_length))]
-fn wrong_length(face: &[u8]) -> Option<usize>
-    requires { header_size + 2 * loops face.now ≤ length face.now }
-    ensures { place_of result ≡ wrong_length face.now }
+fn wrong_length(face: Counted) -> Option<usize>
+    ensures { place_of result ≡ wrong_length face.entry.bytes.now }
 {
-    let needed = HEADER_SIZE + 2 * loops(face) + 8 * (HEAD_REALS + 5 * points(face));
-    (face.len() != needed).then_some(needed)
+    let needed = HEADER_SIZE + 2 * loops(face.bytes) + 8 * (HEAD_REALS + 5 * points(face));
+    (face.bytes.len() != needed).then_some(needed)
 }
 
 // Of `count` reals from real `first` on, the first that is not in its range.
@@ -128,15 +126,16 @@ fn first_outside<F: Fn(usize) -> Range>(
 // range, took 6.9 microseconds where this takes 3.5, and so missed the bar of being no slower than before
 // (harness/bench).
 #[tactic(auto, using(crate::proofs::Reals::of_parts))]
-fn first_bad_real(face: &[u8]) -> Option<usize>
-    requires { length face.now ≡ needed face.now }
-    ensures { place_of result ≡ first_bad_real face.now }
+fn first_bad_real(counted: Counted) -> Option<usize>
+    requires { length counted.bytes.now ≡ needed counted.bytes.now }
+    ensures { place_of result ≡ first_bad_real counted.entry.bytes.now }
 {
+    let face = counted.bytes;
     let kind = face[1];
     if let Some(i) = first_outside(face, 0, HEAD_REALS, |i| head_range(kind, i)) {
         return Some(i);
     }
-    let n = points(face);
+    let n = points(counted);
     if let Some(i) = first_outside(face, HEAD_REALS, 2 * n, |j| uv_range(kind, j)) {
         return Some(i);
     }
@@ -158,16 +157,17 @@ pub fn check(face: &[u8], limits: Limits) -> Result<(), Refusal>
     if let Some(n) = ends_in_counts(face) {
         return Err(Refusal::WrongLength(n));
     }
-    if let Some(k) = too_few_points(face) {
+    let counted = Counted { bytes: face };
+    if let Some(k) = too_few_points(counted) {
         return Err(Refusal::TooFewPoints(k));
     }
-    if let Some(k) = too_many_points(face, limits) {
+    if let Some(k) = too_many_points(counted, limits) {
         return Err(Refusal::TooManyPoints(k));
     }
-    if let Some(n) = wrong_length(face) {
+    if let Some(n) = wrong_length(counted) {
         return Err(Refusal::WrongLength(n));
     }
-    if let Some(i) = first_bad_real(face) {
+    if let Some(i) = first_bad_real(counted) {
         return Err(Refusal::BadReal(i));
     }
     Ok(())

@@ -5,9 +5,11 @@ ghost use Rattle.std.specs.Prelude.{◌≡◌, ◌+◌, ◌*◌, ◌≤◌, ◌<
 ghost use Rattle.records.specs.Bytes.{real_at};
 ghost use Rattle.records.specs.Face.{header_size, loops, count, points};
 
+use counted::Counted;
 use numbers::bits;
 
 pub mod check;
+mod counted;
 pub mod limits;
 pub mod read;
 mod real_ranges;
@@ -54,13 +56,12 @@ fn count_at(face: &[u8], k: usize) -> usize
     usize::from(u16::from_le_bytes(bytes_at(face, HEADER_SIZE + 2 * k)))
 }
 
-fn points(face: &[u8]) -> usize
-    requires { header_size + 2 * loops face.now ≤ length face.now }
-    ensures { (result ≡ points face.now) × (result < 16777216) }
+fn points(face: Counted) -> usize
+    ensures { (result ≡ points face.entry.bytes.now) × (result < 16777216) }
 {
     let mut total = 0;
-    for k in 0..loops(face) {
-        total += count_at(face, k);
+    for k in 0..loops(face.bytes) {
+        total += count_at(face.bytes, k);
     }
     total
 }

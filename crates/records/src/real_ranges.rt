@@ -84,7 +84,8 @@ fn v_range(kind: u8) -> Range
     up_to(if kind <= CONE { 1000000.0 } else { 64.0 })
 }
 
-// `kind` is the record's byte, and every byte is answered: an enum would ask more of callers.
+// `kind` is the record's byte: the ranges are defined over it, so a kind of our own would be turned back into
+// it here, and would be no plainer.
 #[tactic(auto, unfolding(crate::specs::Limits::head_range))]
 pub fn head_range(kind: u8, i: usize) -> Range
     ensures { range_of result ≡ head_range kind i }

@@ -8,13 +8,13 @@ use Rattle.records.proofs.check.first_bad_real.Goals as goal
 
 pub first_outside-requires-clause-ranged : goal.first_outside-requires-clause-ranged
 first_outside-requires-clause-ranged c = λ j r h e.
-    let q : range_of r ≡ head_range (kind c.args.face.now) j = search rules in
+    let q : range_of r ≡ head_range (kind c.args.counted.bytes.now) j = search rules in
     let z : 0 + j ≡ j = omega arith in
     rw z (q ∙ sym (range-head _ _ j h))
 
 pub first_outside-requires-2-clause-ranged : goal.first_outside-requires-2-clause-ranged
 first_outside-requires-2-clause-ranged c = λ j r h e.
-    let q : range_of r ≡ uv_range (kind c.args.face.now) j = search rules in
+    let q : range_of r ≡ uv_range (kind c.args.counted.bytes.now) j = search rules in
     let n = c.points-n.ensures.0 in
     q ∙ sym (range-uv _ _ j (omega arith))
 

@@ -8,4 +8,4 @@ use Rattle.records.proofs.check.too_few_points.Goals as goal
 
 pub returns : goal.returns
 unfolding too_few_points
-returns c = c.first_loop.ensures (λ k. count c.args.face.now k <? min_points) (λ k b h e. search (rules, tests))
+returns c = c.first_loop.ensures (λ k. count c.args.face.bytes.now k <? min_points) (λ k b h e. search (rules, tests))

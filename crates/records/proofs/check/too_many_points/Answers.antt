@@ -7,4 +7,4 @@ use Rattle.records.proofs.check.too_many_points.Goals as goal
 
 pub returns : goal.returns
 unfolding too_many_points
-returns c = c.first_loop.ensures (λ k. c.args.limits.points <? start c.args.face.now (suc k)) (λ k b h e. search (rules, tests))
+returns c = c.first_loop.ensures (λ k. c.args.limits.points <? start c.args.face.bytes.now (suc k)) (λ k b h e. search (rules, tests))

@@ -7,8 +7,8 @@ use Rattle.records.proofs.read.read_corners.Goals as goal
 pub returns-then-not-counts_there : goal.returns-then-not-counts_there
 returns-then-not-counts_there c = reading.corners_gone _ _ (sym c.counts_there.ensures ∙ c.if-not-counts_there.true)
 
-pub points-n-requires : goal.points-n-requires
-points-n-requires c = reading.there_long _ (sym c.counts_there.ensures ∙ c.if-not-counts_there.false)
+pub invariant_of-points : goal.invariant_of-points
+invariant_of-points c = record { counts_there = reading.there_long _ (sym c.counts_there.ensures ∙ c.if-not-counts_there.false) }
 
 pub loops-requires : goal.loops-requires
 loops-requires c = reading.there_header _ (sym c.counts_there.ensures ∙ c.if-not-counts_there.false)
