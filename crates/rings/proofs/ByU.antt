@@ -88,12 +88,6 @@ module _ (period cut : Float) where
   pub later_bare : (u : List Float) → us (later_for period cut (bare u)) ≡ later_by (λ u. u) moved_by period cut u
   later_bare u = us_later (bare u) ∙ ap (later_by (λ u. u) moved_by period cut) (us-bare u)
 
-  pub rows_later : (t : List Held) → rows (later_by (λ (c : Held). c.u) (λ m. held_u (moved_by m)) period cut t) ≡ later_for period cut (rows t)
-  unfolding rows
-  rows_later t =
-      map-later_by corner_of (λ (c : Held). c.u) (λ c. c.u) (λ m. held_u (moved_by m)) (λ m. move_u (moved_by m)) (λ c. refl) (λ m c. refl) period cut t
-      ∙ of_corners (rows t)
-
   pub length-later_for : {A : Type 0} (r : Corners A) → length (later_for period cut r) ≡ length r
   unfolding slide_to_cut align_cuts
   length-later_for r =
@@ -111,10 +105,6 @@ module _ (period : Float) {A : Type 0} (k : ℕ) (r : Corners A) where
   length-first_for = length-begin_ring_at (raised period) k r
 
 module _ (f : Float → Float) (k : ℕ) (t : List Held) where
-  pub rows-begin_ring_at : rows (begin_ring_at (held_u f) k t) ≡ begin_ring_at (move_u f) k (rows t)
-  unfolding rows
-  rows-begin_ring_at = map-begin_ring_at corner_of (held_u f) (move_u f) (λ c. refl) k t
-
   pub rows-recut_at : rows (recut_at (held_u f) k t) ≡ recut_at (move_u f) k (rows t)
   unfolding rows
   rows-recut_at = map-recut_at corner_of (held_u f) (move_u f) (λ c. refl) k t
