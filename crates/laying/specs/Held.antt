@@ -1,5 +1,5 @@
 -- The rings and the holes of a face, held in tables.
-use Rattle.std.specs.Prelude.{ℕ, ◌≡◌, ◌+◌, min, Bool, cond, List, leb, ltb, Float, length}
+use Rattle.std.specs.Prelude.{ℕ, ◌+◌, min, Bool, cond, List, leb, ltb, Float, length}
 use Rattle.numbers.specs.declared.math.Vec3.{Vec3}
 use Rattle.lists.specs.Pieces.{pieces}
 use Rattle.tables.specs.Corners.{Corners}
@@ -32,11 +32,3 @@ room_in u v x y z = min (min (length u) (length v)) (min (length x) (min (length
 -- "A trial is worked on a copy of 512 places", here of `room` places: where both rings do not fit, they stay
 unfoldable pub started_within : Float → ℕ → Face Vec3 → Face Vec3
 started_within period room face = cond (ltb room (length face.first + length face.later)) face (started period face)
-
--- five arrays of n places each
-pub record EachAsLong (n : ℕ) (u v x y z : List Float) : Type 0 where
-  pub u_places : length u ≡ n
-  pub v_places : length v ≡ n
-  pub x_places : length x ≡ n
-  pub y_places : length y ≡ n
-  pub z_places : length z ≡ n

@@ -1,11 +1,11 @@
 // Both rings begun where the strip takes them.
-ghost use Rattle.std.specs.Prelude.{◌≡◌, List, length};
+ghost use Rattle.std.specs.Prelude.{◌≡◌, ◌≤◌, List, length};
 ghost use Rattle.numbers.specs.declared.math.Vec3.{Vec3};
 ghost use Rattle.tables.specs.Corners.{Corners};
 ghost use Rattle.tables.specs.Rows.{rows};
 ghost use Rattle.rings.specs.Starts.{first_for, later_for};
 ghost use Rattle.starts.specs.Search.{search_within};
-ghost use Rattle.laying.specs.Held.{room_in, rings_in, started_within, EachAsLong};
+ghost use Rattle.laying.specs.Held.{rings_in, room_in, started_within};
 
 use rings::choices::{first_of, nearest};
 use rings::moves::{align_at, begin_ring_at};
@@ -15,8 +15,8 @@ use tables::columns::{columns_into, rows_from};
 use tables::corners::Corner;
 use tables::moves::Move;
 
-// The first ring, begun at its point k on a copy of as many places. What a corner carries besides its
-// u is turned at the same point, and stays.
+// The first ring, begun at its point k on a copy of its columns. What a corner carries besides its u is
+// turned at the same point, and stays.
 fn take_first(
     first: &mut [Corner],
     u: &mut [f64],
@@ -27,19 +27,20 @@ fn take_first(
     k: usize,
     period: f64,
 )
-    requires { EachAsLong (length first.old) u.old v.old x.old y.old z.old }
+    requires { length first.old ≤ room_in u.old v.old x.old y.old z.old }
     ensures { rows first.new ≡ first_for period k (rows first.old) }
 {
+    let n = first.len();
     columns_into(first, u, v, x, y, z);
-    begin_ring_at(u, k, Move::Up(period));
-    begin_ring_at(v, k, Move::Stay);
-    begin_ring_at(x, k, Move::Stay);
-    begin_ring_at(y, k, Move::Stay);
-    begin_ring_at(z, k, Move::Stay);
-    rows_from(first, u, v, x, y, z);
+    begin_ring_at(&mut u[..n], k, Move::Up(period));
+    begin_ring_at(&mut v[..n], k, Move::Stay);
+    begin_ring_at(&mut x[..n], k, Move::Stay);
+    begin_ring_at(&mut y[..n], k, Move::Stay);
+    begin_ring_at(&mut z[..n], k, Move::Stay);
+    rows_from(first, &u[..n], &v[..n], &x[..n], &y[..n], &z[..n]);
 }
 
-// The later ring, put to the cut on a copy of as many places.
+// The later ring, put to the cut on a copy of its columns.
 fn take_later(
     later: &mut [Corner],
     u: &mut [f64],
@@ -50,17 +51,18 @@ fn take_later(
     cut: f64,
     period: f64,
 )
-    requires { EachAsLong (length later.old) u.old v.old x.old y.old z.old }
+    requires { length later.old ≤ room_in u.old v.old x.old y.old z.old }
     ensures { rows later.new ≡ later_for period cut (rows later.old) }
 {
+    let n = later.len();
     columns_into(later, u, v, x, y, z);
-    let near = nearest(u, cut, period);
-    later_for(u, cut, period);
-    align_at(v, near, Move::Stay, Move::Stay);
-    align_at(x, near, Move::Stay, Move::Stay);
-    align_at(y, near, Move::Stay, Move::Stay);
-    align_at(z, near, Move::Stay, Move::Stay);
-    rows_from(later, u, v, x, y, z);
+    let near = nearest(&u[..n], cut, period);
+    later_for(&mut u[..n], cut, period);
+    align_at(&mut v[..n], near, Move::Stay, Move::Stay);
+    align_at(&mut x[..n], near, Move::Stay, Move::Stay);
+    align_at(&mut y[..n], near, Move::Stay, Move::Stay);
+    align_at(&mut z[..n], near, Move::Stay, Move::Stay);
+    rows_from(later, &u[..n], &v[..n], &x[..n], &y[..n], &z[..n]);
 }
 
 // Starts k of the first ring are tried from 0 on copies of both rings' u, and the rings begun at the
@@ -82,31 +84,11 @@ pub fn take_start(
 {
     let room = u.len().min(v.len()).min(x.len().min(y.len().min(z.len())));
     let found = search_tables(&mut u[..room], first, later, period);
-    let n = first.len();
-    let m = later.len();
-    if room < n + m {
+    if room < first.len() + later.len() {
         return found;
     }
-    take_first(
-        first,
-        &mut u[..n],
-        &mut v[..n],
-        &mut x[..n],
-        &mut y[..n],
-        &mut z[..n],
-        found.start,
-        period,
-    );
+    take_first(first, u, v, x, y, z, found.start, period);
     let cut = first_of(first);
-    take_later(
-        later,
-        &mut u[..m],
-        &mut v[..m],
-        &mut x[..m],
-        &mut y[..m],
-        &mut z[..m],
-        cut,
-        period,
-    );
+    take_later(later, u, v, x, y, z, cut, period);
     found
 }

@@ -4,8 +4,8 @@ use Rattle.rings.proofs.ReadRows.{us_of_rows}
 use Rattle.laying.proofs.Starting.{searched_in_room, none-taken, start-taken}
 use Rattle.laying.proofs.start.take_start.Goals as goal
 
-pub returns-then-room-n : goal.returns-then-room-n
-returns-then-room-n c =
+pub returns-then-room-first : goal.returns-then-room-first
+returns-then-room-first c =
     let found = searched_in_room _ _ _ c.args.u.now c.args.v.now c.args.x.now c.args.y.now c.args.z.now _ _ (omega arith) c.search_tables-found.ensures in
     none-taken _ _ _ _ _ found (omega arith)
 
