@@ -8,10 +8,10 @@ ghost use Rattle.records.specs.Refusals.{wrong_header, too_many_loops, ends_in_c
 ghost use Rattle.records.specs.Answers.{place_of, verdict_of};
 ghost use Rattle.records.specs.FirstLoop.{FirstLoop};
 
-use super::counted::Counted;
 use super::limits::Limits;
 use super::real_ranges::{Range, head_range, uv_range, xyz_range};
 use super::refusal::Refusal;
+use super::with_counts::WithCounts;
 use super::{HEAD_REALS, HEADER_SIZE, MIN_POINTS, count_at, loops, points, real_at};
 
 // 2, the same whatever the limits are: a step of its own
@@ -41,7 +41,7 @@ pub fn wrong_header(face: &[u8]) -> Option<usize>
 }
 
 // 3. That the header is there stands in two contracts of this file and in that of `loops`: they come before the
-// counts were tested, and a struct of their own, beside `Counted`, would be no plainer.
+// counts were tested, and a struct of their own, beside `WithCounts`, would be no plainer.
 #[tactic(auto, using(crate::proofs::Search::when_some), unfolding(crate::specs::Refusals::too_many_loops))]
 fn too_many_loops(face: &[u8], limits: Limits) -> Option<usize>
     requires { header_size ≤ length face.now }
@@ -62,7 +62,7 @@ fn ends_in_counts(face: &[u8]) -> Option<usize>
 }
 
 // The first loop that `refuses` says is refused, asked with its points and with the total up to its end.
-fn first_loop<F: Fn(usize, usize) -> bool>(face: Counted, refuses: F) -> Option<usize>
+fn first_loop<F: Fn(usize, usize) -> bool>(face: WithCounts, refuses: F) -> Option<usize>
     requires { F.IsAlwaysCallable refuses }
     ensures { FirstLoop (F.post refuses) face.entry.bytes.now result }
 {
@@ -78,14 +78,14 @@ fn first_loop<F: Fn(usize, usize) -> bool>(face: Counted, refuses: F) -> Option<
 }
 
 // 4
-fn too_few_points(face: Counted) -> Option<usize>
+fn too_few_points(face: WithCounts) -> Option<usize>
     ensures { place_of result ≡ too_few_points face.entry.bytes.now }
 {
     first_loop(face, |n, _| n < MIN_POINTS)
 }
 
 // 5
-fn too_many_points(face: Counted, limits: Limits) -> Option<usize>
+fn too_many_points(face: WithCounts, limits: Limits) -> Option<usize>
     ensures { place_of result ≡ too_many_points limits face.entry.bytes.now }
 {
     first_loop(face, |_, total| total > limits.points)
@@ -93,7 +93,7 @@ fn too_many_points(face: Counted, limits: Limits) -> Option<usize>
 
 // 6, the record's length is not the one that its counts give
 #[tactic(auto, using(crate::proofs::Search::when_some), unfolding(crate::specs::Refusals::wrong_length))]
-fn wrong_length(face: Counted) -> Option<usize>
+fn wrong_length(face: WithCounts) -> Option<usize>
     ensures { place_of result ≡ wrong_length face.entry.bytes.now }
 {
     let needed = HEADER_SIZE + 2 * loops(face.bytes) + 8 * (HEAD_REALS + 5 * points(face));
@@ -126,7 +126,7 @@ fn first_outside<F: Fn(usize) -> Range>(
 // range, took 6.9 microseconds where this takes 3.5, and so missed the bar of being no slower than before
 // (harness/bench).
 #[tactic(auto, using(crate::proofs::Reals::of_parts))]
-fn first_bad_real(counted: Counted) -> Option<usize>
+fn first_bad_real(counted: WithCounts) -> Option<usize>
     requires { length counted.bytes.now ≡ needed counted.bytes.now }
     ensures { place_of result ≡ first_bad_real counted.entry.bytes.now }
 {
@@ -157,7 +157,7 @@ pub fn check(face: &[u8], limits: Limits) -> Result<(), Refusal>
     if let Some(n) = ends_in_counts(face) {
         return Err(Refusal::WrongLength(n));
     }
-    let counted = Counted { bytes: face };
+    let counted = WithCounts { bytes: face };
     if let Some(k) = too_few_points(counted) {
         return Err(Refusal::TooFewPoints(k));
     }

@@ -5,15 +5,15 @@ ghost use Rattle.std.specs.Prelude.{◌≡◌, ◌+◌, ◌*◌, ◌≤◌, ◌<
 ghost use Rattle.records.specs.Bytes.{real_at};
 ghost use Rattle.records.specs.Face.{header_size, loops, count, points};
 
-use counted::Counted;
 use numbers::bits;
+use with_counts::WithCounts;
 
 pub mod check;
-mod counted;
 pub mod limits;
 pub mod read;
 mod real_ranges;
 pub mod refusal;
+mod with_counts;
 
 // The sizes of a face record's parts, and how few points a loop may have.
 const HEADER_SIZE: usize = 5;
@@ -56,7 +56,7 @@ fn count_at(face: &[u8], k: usize) -> usize
     usize::from(u16::from_le_bytes(bytes_at(face, HEADER_SIZE + 2 * k)))
 }
 
-fn points(face: Counted) -> usize
+fn points(face: WithCounts) -> usize
     ensures { (result ≡ points face.entry.bytes.now) × (result < 16777216) }
 {
     let mut total = 0;

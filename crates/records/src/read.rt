@@ -7,7 +7,7 @@ ghost use Rattle.tables.specs.Rows.{rows, corner_of};
 ghost use Rattle.records.specs.Face.{kind, sense, segments, corners_in, corner_at};
 ghost use Rattle.records.specs.Lent.{front, counts_there, CountsRead, HeadRead, CornersRead, CornersRoom};
 
-use super::counted::Counted;
+use super::with_counts::WithCounts;
 use super::{HEAD_REALS, HEADER_SIZE, count_at, loops, points, real_at};
 use numbers::math::Vec3;
 use tables::corners::Corner;
@@ -121,7 +121,7 @@ pub fn read_corners(face: &[u8], t: &mut [Corner]) -> Option<usize>
     if !counts_there(face) {
         return None;
     }
-    let n = points(Counted { bytes: face });
+    let n = points(WithCounts { bytes: face });
     if face.len() < HEADER_SIZE + 2 * loops(face) + 8 * (HEAD_REALS + 5 * n) {
         return None;
     }
