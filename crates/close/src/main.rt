@@ -23,25 +23,14 @@ const LENT: usize = 61614;
 // says that signals do.
 const TRIES: u32 = 1000;
 
-// Reads once, to the bytes from `done` on, and says how many are there then.
-fn read_once(input: &mut Stdin, bytes: &mut [u8], done: usize) -> io::Result<usize>
-    requires { done ≤ length bytes.old }
-    ensures within { IfOk result (λ there. (done ≤ there) × (there ≤ length bytes.new)) }
-    ensures bytes_unchanged { take done bytes.new ≡ take done bytes.old }
-{
-    let more = input.read(&mut bytes[done..])?;
-    Ok(done + more)
-}
-
-// Reads once, and again where a signal interrupted the read before it moved a byte.
-fn read_more(input: &mut Stdin, bytes: &mut [u8], done: usize) -> io::Result<usize>
-    requires { done ≤ length bytes.old }
-    ensures within { IfOk result (λ there. (done ≤ there) × (there ≤ length bytes.new)) }
-    ensures bytes_unchanged { take done bytes.new ≡ take done bytes.old }
+// Reads once, and again where a signal interrupted the read before it moved a byte. Answers how many
+// bytes were read.
+fn read_more(input: &mut Stdin, rest: &mut [u8]) -> io::Result<usize>
+    ensures { IfOk result (λ more. more ≤ length rest.new) }
 {
     for _ in 1..TRIES {
-        match read_once(input, bytes, done) {
-            Ok(there) => return Ok(there),
+        match input.read(rest) {
+            Ok(more) => return Ok(more),
             Err(error) => {
                 if error.kind() != ErrorKind::Interrupted {
                     return Err(error);
@@ -49,7 +38,7 @@ fn read_more(input: &mut Stdin, bytes: &mut [u8], done: usize) -> io::Result<usi
             }
         }
     }
-    read_once(input, bytes, done)
+    input.read(rest)
 }
 
 // Reads until the input ends or the bytes are full, and says how many are there. Where a read fails,
@@ -58,13 +47,14 @@ fn read_input(input: &mut Stdin, bytes: &mut [u8]) -> io::Result<usize>
     ensures { IfOk result (λ there. there ≤ length bytes.new) }
 {
     let mut done = 0;
-    // Not a `for`: how many reads it takes is known only by reading.
+    // A `for` would be no plainer: it would count turns that nothing needs, and still ask whether the
+    // bytes are full.
     while done < bytes.len() {
-        let there = read_more(input, bytes, done)?;
-        if there == done {
+        let more = read_more(input, &mut bytes[done..])?;
+        if more == 0 {
             break;
         }
-        done = there;
+        done += more;
     }
     Ok(done)
 }

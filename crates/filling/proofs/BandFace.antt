@@ -14,7 +14,7 @@ use Rattle.records.specs.Accepted.{Accepted}
 use Rattle.records.specs.Face.{counts, corners_in}
 use Rattle.records.specs.Limits.{version1}
 use Rattle.records.specs.Refusals.{at, first_where}
-use Rattle.call.specs.Face.{sense_in, surface_in, wrapping, wraps_in}
+use Rattle.call.specs.Face.{sense_in, wrapping, wraps_in}
 use Rattle.call.specs.Later.{wraps_at}
 use Rattle.measuring.specs.LastWhere.{last_where}
 use Rattle.filling.specs.declared.read_face.ReadFace.{ReadFace}

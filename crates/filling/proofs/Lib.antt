@@ -13,3 +13,4 @@ pub mod Finding
 pub mod BandFace
 pub mod Taken
 pub mod Banded
+pub mod Mapped

@@ -1,12 +1,7 @@
 -- The band between two rings, closed into a table. The sentences are those of 01, "Bands", where no other place is named.
-use Rattle.std.specs.Prelude.{ℕ, ◌≤◌, ◌≡◌, Bool, cond, List, leb, length, take, replicate, Result, Ok, Err}
+use Rattle.std.specs.Prelude.{ℕ, ◌≤◌, ◌≡◌, cond, List, leb, length, take, Result, Ok, Err}
 use Rattle.numbers.specs.declared.math.Vec3.{Vec3}
 use Rattle.surfaces.specs.declared.patch.Patch.{Patch}
-use Rattle.surfaces.specs.Domains.{u_period}
-use Rattle.lists.specs.Pieces.{pieces}
-use Rattle.lists.specs.Placed.{placed}
-use Rattle.loop_records.specs.declared.LoopRecord.{LoopRecord}
-use Rattle.loop_records.specs.Record.{no_loop}
 use Rattle.tables.specs.Corners.{Corners}
 use Rattle.tables.specs.Rows.{rows}
 use Rattle.tables.specs.declared.corners.Corner.{Corner as Held}
@@ -16,12 +11,9 @@ use Rattle.bands.specs.Band.{strip_of, outer, holes}
 use Rattle.strip.specs.Closing.{closed_as, no_room}
 use Rattle.strip.specs.declared.closing.Closed.{Closed}
 use Rattle.strip.specs.declared.closing.TooMany.{TooMany}
-use Rattle.records.specs.Accepted.{Accepted}
-use Rattle.records.specs.Face.{counts, corners_in}
 use Rattle.records.specs.Limits.{version1}
 use Rattle.records.specs.Refusals.{at, first_where}
-use Rattle.call.specs.Face.{frame_in, surface_in, options_in, sense_in, wrapping, wraps_in}
-use Rattle.loop_records.specs.Loops.{records_from}
+use Rattle.call.specs.Face.{frame_in, surface_in, options_in, wrapping, wraps_in}
 use Rattle.call.specs.Later.{wraps_at}
 use Rattle.measuring.specs.LastWhere.{last_where}
 

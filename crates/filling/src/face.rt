@@ -24,7 +24,8 @@ use tables::corners::{Corner, ORIGIN};
 use tables::loops::Loops;
 use tables::slices::at;
 
-// What a face was filled as.
+// What a face was filled as. It is no part of `ResultLoops`, which would be no plainer: it is what an `Ok`
+// carries, and a face that is refused has no path.
 #[derive(Clone, Copy)]
 pub struct FilledFace {
     pub path: Path,

@@ -104,7 +104,9 @@ fn falls(travel: i32) -> bool
 
 // The band between two rings into the front of t, and the holes onto its strip where they stand. The
 // arrays have places for what 16 holes cover, for the columns of both rings, and for a wall of 512
-// points: a strip of more than 1,024 points is too long.
+// points: a strip of more than 1,024 points is too long. The tables are lent beside the counts and in no
+// struct, which would be no plainer: a function that takes a `&mut` inside a struct owes a clause on what
+// it gives back, and the counts are not changed.
 fn band_between(
     first: &mut [Corner],
     later: &mut [Corner],
@@ -197,18 +199,16 @@ fn fill_band(
     let mut holes = [ORIGIN; 512];
     let a = last_wrapping(face.wraps).unwrap_or(0);
     let b = first_wrapping(face.wraps).unwrap_or(0);
-    match band_of(face, corners, a, b, &mut holes, &mut out.corners) {
-        Ok(closed) => {
-            copy_into(&mut out.corners, closed.count, &holes);
-            out.counts[0] = closed.count;
-            pick(&mut out.counts, 1, face.counts, a, b);
-            out.areas[0] = closed.area;
-            pick(&mut out.areas, 1, areas, a, b);
-            Ok(FilledFace {
-                path: Path::Wrapped,
-                loops: face.counts.len().saturating_sub(1),
-            })
-        }
-        Err(long) => Err(Refusal::LongStrip(long.corners)),
-    }
+    let closed = band_of(face, corners, a, b, &mut holes, &mut out.corners).map_err(
+        |long| Refusal::LongStrip(long.corners),
+    )?;
+    copy_into(&mut out.corners, closed.count, &holes);
+    out.counts[0] = closed.count;
+    pick(&mut out.counts, 1, face.counts, a, b);
+    out.areas[0] = closed.area;
+    pick(&mut out.areas, 1, areas, a, b);
+    Ok(FilledFace {
+        path: Path::Wrapped,
+        loops: face.counts.len().saturating_sub(1),
+    })
 }

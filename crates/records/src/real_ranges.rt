@@ -11,7 +11,7 @@ const CONE: u8 = 2;
 
 const TORUS: u8 = 4;
 
-// From one real to another, both included.
+// From one real to another, both included. Not `Interval`, which is where a parameter of a surface lies.
 #[derive(Clone, Copy)]
 pub struct Range {
     low: f64,

@@ -67,13 +67,15 @@ fn replay_face(
 fn next_face(rt: &HostRuntime, face: &mut [u8], res: &mut [u8]) -> io::Result<()> {
     let mut head = [0u8; 8];
     rt.stdin().read_exact(&mut head)?;
-    let lent = number(head[0], head[1], head[2], head[3]);
-    let length = number(head[4], head[5], head[6], head[7]);
+    let [a, b, c, d, e, f, g, h] = head;
+    let lent = number(a, b, c, d);
+    let length = number(e, f, g, h);
     replay_face(rt, lent, length, face, res)
 }
 
-// The turns are counted because a loop has to end, and nothing says that the input does: a `loop` needs a
-// measure that falls, and a `for` over `iter::repeat` owes that it ends, which is false.
+// Tried: a `loop`, which needs a measure that falls, and a `for` over `iter::repeat`, which owes that it ends:
+// that is false, and neither proof closes. So the turns are counted: a loop has to end, and nothing says
+// that the input does.
 fn replay_all(rt: &HostRuntime, face: &mut [u8], res: &mut [u8]) -> io::Result<()> {
     for _ in 0..u64::MAX {
         next_face(rt, face, res)?;
