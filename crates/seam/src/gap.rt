@@ -6,7 +6,7 @@ ghost use Rattle.seam.specs.Gap as Gaps;
 
 use numbers::order::max;
 
-// What a hole covers, by its u.
+// What a hole covers, by its u. Not `Interval`, which is where a parameter of a surface lies.
 #[derive(Clone, Copy)]
 pub struct Span {
     pub low: f64,
