@@ -40,6 +40,7 @@ pub fn loop_first(loops: Loops, k: usize, out: &mut [Corner])
 // moved are worked out anew, and the boxes are written too.
 // The result is three slices and no struct: `ResultLoops` of filling has the lengths of version 1, which
 // would ask more of callers, and a struct of slices would be made for this one call and taken apart.
+// Nor are t and its counts one value: a struct with a `&mut` owes a clause on what it gives back.
 pub fn closed_face(
     t: &mut [Corner],
     counts: &[usize],

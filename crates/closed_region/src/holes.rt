@@ -90,7 +90,8 @@ fn rephase_loop(
 }
 
 // Every loop but the outer one, with its area. Nothing is moved where that loop is none of theirs, or
-// where the loops have no area each.
+// where the loops have no area each. The table is lent beside its counts and in no struct, which would
+// owe a clause on what it gives back.
 // The place is kept by hand: with what is left of the table in a variable
 // (`split_at_mut`) the proof did not close, as a loop keeps nothing of what a borrow that is handed on
 // gives back.

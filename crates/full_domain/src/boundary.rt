@@ -1,5 +1,6 @@
 // The boundary of a surface that nothing trims, its whole parameter rectangle: how many corners it has,
-// the rungs of each direction, and the position of a corner.
+// the rungs of each direction, and the position of a corner. What asks for no frame, or for no
+// tolerances, takes the other two apart, and no patch, which would ask more of callers.
 ghost use Rattle.std.specs.Prelude.{◌≡◌, cond, ◌-◌, ◌≤◌, length};
 ghost use Rattle.std.specs.Float.Ieee.{le};
 ghost use Rattle.std.proofs.lemmas.List.Edits.{sets};

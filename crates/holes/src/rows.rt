@@ -12,7 +12,7 @@ use tables::corners::Corner;
 use tables::loops::Loops;
 use tables::slices::{copy_into, has_room};
 
-// How many rows the holes have.
+// How many rows the holes have: a sum over all loops but two, which are told by their numbers.
 pub fn count_rows(loops: Loops, a: usize, b: usize) -> usize
     ensures { (result ≡ length (flatten (others a b (loops_in loops.entry)))) × (result ≤ length (rows loops.entry.corners.now)) }
 {

@@ -1,4 +1,5 @@
-// Both rings begun where the strip takes them.
+// Both rings begun where the strip takes them. A trial is worked on copies of their columns, in the five
+// arrays that document 01 names, and not on a table.
 ghost use Rattle.std.specs.Prelude.{◌≡◌, ◌≤◌, List, length};
 ghost use Rattle.numbers.specs.declared.math.Vec3.{Vec3};
 ghost use Rattle.tables.specs.Corners.{Corners};

@@ -11,7 +11,8 @@ use surfaces::surface::Surface;
 use tables::slices::at;
 
 // The kind, with its size and its second one.
-// `kind` is the record's byte, and every byte is answered: an enum would ask more of callers.
+// `kind` is the record's byte, and every byte is answered: an enum would ask more of callers. The function
+// of this name in `compared` takes a C number.
 #[tactic(auto, unfolding(call::specs::Face::surface_of))]
 pub fn surface_of(kind: u8, a: f64, b: f64) -> Surface
     ensures { result ≡ surface_of kind a b }

@@ -56,6 +56,7 @@ fn count_at(face: &[u8], k: usize) -> usize
     usize::from(u16::from_le_bytes(bytes_at(face, HEADER_SIZE + 2 * k)))
 }
 
+// How many points all loops have.
 fn points(face: WithCounts) -> usize
     ensures { (result ≡ points face.entry.bytes.now) × (result < 16777216) }
 {

@@ -1,4 +1,4 @@
-// The ranges of a face record's reals.
+// The ranges of a face record's reals. The kind is the record's byte, over which they are defined.
 ghost use Rattle.std.specs.Prelude.{◌≡◌, ◌&&◌};
 ghost use Rattle.std.specs.Float.Ieee.{le};
 ghost use Rattle.records.specs.Limits.{up_to, radius, second, u_range, v_range, head_range, uv_range, xyz_range};

@@ -1,4 +1,5 @@
-// What the search for a start decides by the u of a ring.
+// What the search for a start decides by the u of a ring. The cut and the period are two parameters, as the
+// definitions take them; past the end a u is a NaN, as the definitions read it.
 ghost use Rattle.std.specs.Prelude.{◌≡◌, map, get_or};
 ghost use Rattle.std.specs.Float.{nan};
 ghost use Rattle.rings.specs.Choices.{first_of, begins_backward, offset, nearest, on_seam, step_stands, stands_at_the_cut, serve};

@@ -9,6 +9,8 @@ ghost use Rattle.rings.specs.Choices.{least_u, greatest_u, strip_shift, straddle
 use numbers::order::{max, min};
 use tables::corners::Corner;
 
+// Least and greatest are two functions: one over the operation would be told by a closure, whose contract
+// is a relation and no function.
 pub fn least(t: &[Corner]) -> f64
     ensures { result ≡ least_of (us (rows t.now)) }
 {

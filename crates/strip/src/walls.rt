@@ -1,4 +1,5 @@
-// The heights of a wall, and the surface points that stand there.
+// The heights of a wall, and the surface points that stand there. What asks for no frame takes the surface
+// and the tolerances, and no patch, which would ask more of callers.
 ghost use Rattle.std.specs.Prelude.{◌≡◌, map, length};
 ghost use Rattle.std.proofs.lemmas.List.Edits.{sets};
 ghost use Rattle.lists.specs.Placed.{placed};

@@ -1,5 +1,6 @@
 // The rungs of `merge_even` of `knots.rs`, for surfaces that have no breaks. There is no list of
-// them: they are counted as they come, and those asked for are written to a lent slice.
+// them: they are counted as they come, and those asked for are written to a lent slice. The bounds and the
+// number of divisions are three parameters, as the definitions take them.
 ghost use Rattle.std.specs.Prelude.{◌≡◌, ◌+◌, ◌-◌, length, drop};
 ghost use Rattle.std.specs.Iterator.{YieldsFirst, item_count};
 ghost use Rattle.std.proofs.lemmas.List.Edits.{sets};

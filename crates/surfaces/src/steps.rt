@@ -1,4 +1,5 @@
-// How many steps `face.rs` gives a wall and a direction of a whole surface.
+// How many steps `face.rs` gives a wall and a direction of a whole surface. They ask for no frame, so they
+// take the surface and the tolerances, and no patch.
 ghost use Rattle.std.specs.Prelude.{◌≡◌};
 ghost use Rattle.surfaces.specs.Steps.{v_steps_of, direction_steps_of, around_steps, along_steps, arc_steps};
 

@@ -1,5 +1,5 @@
 // A table's columns in slices of their own, and a table put together from them. What does not fit is
-// not written.
+// not written. Columns stand apart for a trial alone, whose arrays document 01 names.
 ghost use Rattle.std.specs.Prelude.{◌≡◌, Float, map};
 ghost use Rattle.numbers.specs.declared.math.Vec3.{Vec3};
 ghost use Rattle.lists.specs.Placed.{placed};
