@@ -23,14 +23,25 @@ const LENT: usize = 61614;
 // says that signals do.
 const TRIES: u32 = 1000;
 
-// Reads once, and again where a signal interrupted the read before it moved a byte. Answers how many
-// bytes were read.
-fn read_more(input: &mut Stdin, rest: &mut [u8]) -> io::Result<usize>
-    ensures { IfOk result (λ more. more ≤ length rest.new) }
+// Reads once, to the bytes from `done` on, and says how many are there then. Those before stay.
+fn read_once(input: &mut Stdin, bytes: &mut [u8], done: usize) -> io::Result<usize>
+    requires { done ≤ length bytes.old }
+    ensures within { IfOk result (λ there. (done ≤ there) × (there ≤ length bytes.new)) }
+    ensures bytes_unchanged { take done bytes.new ≡ take done bytes.old }
+{
+    let more = input.read(&mut bytes[done..])?;
+    Ok(done + more)
+}
+
+// Reads once, and again where a signal interrupted the read before it moved a byte.
+fn read_more(input: &mut Stdin, bytes: &mut [u8], done: usize) -> io::Result<usize>
+    requires { done ≤ length bytes.old }
+    ensures within { IfOk result (λ there. (done ≤ there) × (there ≤ length bytes.new)) }
+    ensures bytes_unchanged { take done bytes.new ≡ take done bytes.old }
 {
     for _ in 1..TRIES {
-        match input.read(rest) {
-            Ok(more) => return Ok(more),
+        match read_once(input, bytes, done) {
+            Ok(there) => return Ok(there),
             Err(error) => {
                 if error.kind() != ErrorKind::Interrupted {
                     return Err(error);
@@ -38,7 +49,7 @@ fn read_more(input: &mut Stdin, rest: &mut [u8]) -> io::Result<usize>
             }
         }
     }
-    input.read(rest)
+    read_once(input, bytes, done)
 }
 
 // Reads until the input ends or the bytes are full, and says how many are there. Where a read fails,
@@ -50,11 +61,11 @@ fn read_input(input: &mut Stdin, bytes: &mut [u8]) -> io::Result<usize>
     // A `for` would be no plainer: it would count turns that nothing needs, and still ask whether the
     // bytes are full.
     while done < bytes.len() {
-        let more = read_more(input, &mut bytes[done..])?;
-        if more == 0 {
+        let there = read_more(input, bytes, done)?;
+        if there == done {
             break;
         }
-        done += more;
+        done = there;
     }
     Ok(done)
 }
