@@ -5,13 +5,14 @@ ghost use Rattle.rings.specs.Turns.{turned_unless, begin_ring_at, recut_at, alig
 
 use tables::moves::{Move, slide};
 use tables::ring_point::RingPoint;
+use tables::slices::turn_left;
 
 // Begins at the point k; what comes round is moved.
 pub fn begin<T: RingPoint>(ring: &mut [T], k: usize, again: Move)
     ensures { ring.new ≡ begun (T.slid again) k ring.old }
 {
     let round = k.min(ring.len());
-    ring.rotate_left(round);
+    turn_left(ring, round);
     let from = ring.len() - round;
     slide(&mut ring[from..], again);
 }

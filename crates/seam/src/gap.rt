@@ -5,6 +5,7 @@ ghost use Rattle.seam.specs.Gap.{gap_along, sorted};
 ghost use Rattle.seam.specs.Gap as Gaps;
 
 use numbers::order::max;
+use tables::slices::turn_left;
 
 // What a hole covers, by its u. Not `Interval`, which is where a parameter of a surface lies.
 #[derive(Clone, Copy)]
@@ -79,6 +80,6 @@ pub fn sort_spans(spans: &mut [Span])
 {
     for i in (0..spans.len()).rev() {
         let to = i + 1 + below(&spans[i + 1..], spans[i].low);
-        spans[i..to].rotate_left(1);
+        turn_left(&mut spans[i..to], 1);
     }
 }

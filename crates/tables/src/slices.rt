@@ -1,6 +1,6 @@
 // Passes over one slice, for slices of any length. What does not fit is not written: each contract
 // says by `placed` that nothing changes then.
-ghost use Rattle.std.specs.Prelude.{◌≡◌, ◌+◌, min, leb, get_or, set};
+ghost use Rattle.std.specs.Prelude.{◌≡◌, ◌+◌, ◌++◌, min, leb, length, get_or, set, take, drop};
 ghost use Rattle.std.specs.Float.{nan};
 ghost use Rattle.lists.specs.Parts.{part_of};
 ghost use Rattle.lists.specs.Placed.{placed};
@@ -59,4 +59,17 @@ pub fn part<T>(xs: &[T], start: usize, count: usize) -> &[T]
     let n = xs.len();
     let from = start.min(n);
     &xs[from..piece_end(n, from, count)]
+}
+
+// The first k elements behind all others, all of them where there are fewer. By three reversals: the
+// library's `rotate_left` moves what overlaps by `memmove`, which a program in C that links the archive
+// would have to bring beside what it brings now.
+pub fn turn_left<T: Copy>(s: &mut [T], k: usize)
+    ensures after { s.new ≡ drop k s.old ++ take k s.old }
+    ensures len { length s.new ≡ length s.old }
+{
+    let n = k.min(s.len());
+    s[..n].reverse();
+    s[n..].reverse();
+    s.reverse();
 }

@@ -6,4 +6,4 @@ loop-i-init c = sorting _
 
 pub loop-i-preserved : goal.loop-i-preserved
 loop-i-preserved c = sorting_turn _ _ _ _ _ c.loop-i.invariant c.loop-i-test.true c.below.ensures
-    c.rotate_left.ensures.after c.rotate_left.ensures.len
+    c.turn_left.ensures.after c.turn_left.ensures.len
