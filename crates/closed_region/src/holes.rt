@@ -13,6 +13,7 @@ ghost use Rattle.closed_region.specs.Holes.{whole_periods, branch_in, shifted, r
 use super::box_table::box_of;
 use super::rephase::{Branch, stays};
 use loops::rows::signed_area;
+use numbers::rounding::round;
 use tables::corners::Corner;
 use tables::loops::{Loops, loop_of};
 use tables::moves::{Move, move_v, slide};
@@ -24,7 +25,7 @@ pub fn hole_shift(period: f64, from: f64, to: f64) -> f64
     ensures leaves_half { LeavesHalf to from period result }
 {
     if period > 0.0 {
-        return ((to - from) / period).round() * period;
+        return round((to - from) / period) * period;
     }
     0.0
 }

@@ -2,12 +2,14 @@
 ghost use Rattle.std.specs.Prelude.{◌≡◌};
 ghost use Rattle.loops.specs.Branch.{branch_shift, nearest_branch, LandsNear, LeavesHalf};
 
+use numbers::rounding::round;
+
 // What is taken off `value` to bring it nearest to `reference`: whole periods.
 pub fn branch_shift(value: f64, reference: f64, period: f64) -> f64
     ensures value { result ≡ branch_shift value reference period }
     ensures leaves_half { LeavesHalf value reference period result }
 {
-    period * ((value - reference) / period).round()
+    period * round((value - reference) / period)
 }
 
 pub fn nearest_branch(value: f64, reference: f64, period: f64) -> f64

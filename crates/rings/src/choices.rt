@@ -4,6 +4,7 @@ ghost use Rattle.std.specs.Prelude.{◌≡◌, map, get_or};
 ghost use Rattle.std.specs.Float.{nan};
 ghost use Rattle.rings.specs.Choices.{first_of, begins_backward, offset, nearest, on_seam, step_stands, stands_at_the_cut, serve};
 
+use numbers::rounding::round;
 use tables::ring_point::RingPoint;
 
 // The u of point k, and a NaN past the end.
@@ -33,12 +34,12 @@ pub fn begins_backward<T: RingPoint>(ring: &[T]) -> bool
 }
 
 // How far u lies from the cut in periods, whole ones left out.
-#[tactic(auto, using(numbers::proofs::order::Laws::size_is, numbers::proofs::rounding::Laws::round_is))]
+#[tactic(auto, using(numbers::proofs::order::Laws::size_is))]
 fn offset(u: f64, cut: f64, period: f64) -> f64
     ensures { result ≡ offset period cut u }
 {
     let x = (u - cut) / period;
-    (x - x.round()).abs()
+    (x - round(x)).abs()
 }
 
 // Of the open points the first of those nearest the cut.
