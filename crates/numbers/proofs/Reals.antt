@@ -1,5 +1,5 @@
 -- Facts of reals by their values, which the laws of rounding, roots, angles and sizes share.
-use Rattle.std.proofs.Common.{◌≡◌, ℕ, zero, suc, ◌+◌, ◌-◌, ◌*◌, ◌/◌, ◌%◌, ◌^◌, ◌<◌, ◌≤◌, min, Bool, true, false, cond, not, ◌&&◌, T, eqb, ltb, leb, ℤ, pos, negsuc, sym, refl, ap, ◌∙◌, subst, true≢false, le_trans, le_of_eq, lt_of_lt_of_le, lt_of_le_of_lt, lt_irrefl, zero-lt-suc, mul_assoc, mul_comm, lt_of_mul-lt-mul_right, mul-lt-mul_of_pos_right, mul-pos, one-mul, lt_of_not-le, zero-mul, mul-one, sub-add_cancel, mul_right_comm, not-le_of_lt, le-mul_of_pos_right, mul_left_comm, arith, eqb→eq, ltb→lt, lt→ltb, leb→le, pow_pos, pow-add, ltb-true}
+use Rattle.std.proofs.Common.{◌≡◌, ℕ, zero, suc, ◌+◌, ◌-◌, ◌*◌, ◌/◌, ◌%◌, ◌^◌, ◌<◌, ◌≤◌, min, Bool, true, false, cond, not, ◌&&◌, T, eqb, ltb, leb, ℤ, pos, negsuc, sym, refl, ap, ◌∙◌, subst, true≢false, le_trans, le_of_eq, lt_of_lt_of_le, lt_of_le_of_lt, lt_irrefl, zero-lt-suc, mul_assoc, mul_comm, lt_of_mul-lt-mul_right, mul-lt-mul_of_pos_right, mul-pos, one-mul, lt_of_not-le, zero-mul, mul-one, sub-add_cancel, mul_right_comm, not-le_of_lt, le-mul_of_pos_right, mul_left_comm, arith, eqb→eq, ltb→lt, lt→ltb, leb→le, pow_pos, pow-add, ltb-false, ltb-true}
 use native.Mathlib.Nat.{eq_of_mul-eq-mul_right, pow-succ'}
 use native.Mathlib.Decide.{dec_le}
 use mathlib.Core.Bool.{false≢true}
@@ -9,6 +9,7 @@ use lib.Ieee.Fits.{up_pos, down_pos, and_l, and_r, round-fits}
 use lib.Ieee.Exact.{HasValue, round_exact}
 use lib.Ieee.Nearest.{div_same}
 use lib.Ieee.Back.{whole_unique}
+use lib.Ieee.Order.{transfer}
 use lib.Ieee.Positive.{num, den}
 
 -- ---- zero, as a value and as the code writes it
@@ -83,6 +84,32 @@ in_range (fin false m e) a c C v h = (
       (lt_of_le_of_lt (le_of_eq (ap (λ (z : ℕ). z * c) (mul-one (m * up e)) ∙ v.1))
       (lt_of_lt_of_le (mul-lt-mul_of_pos_right h (down_pos e)) (le_of_eq (mul_right_comm (2 ^ 64) c (down e)))))),
 )
+
+-- ---- comparisons by values
+pub lt-true : (x y : Float) (a c b d : ℕ) → 0 < c → 0 < d → HasValue x false a c → HasValue y false b d → lt x y ≡ true → a * d < b * c
+unfolding lt
+lt-true nan y a c b d C D v w t = absurd v
+lt-true (inf s) y a c b d C D v w t = absurd v
+lt-true (fin true m e) y a c b d C D v w t = absurd (true≢false v.0)
+lt-true (fin false m e) nan a c b d C D v w t = absurd w
+lt-true (fin false m e) (inf s) a c b d C D v w t = absurd w
+lt-true (fin false m e) (fin true n g) a c b d C D v w t = absurd (true≢false w.0)
+lt-true (fin false m e) (fin false n g) a c b d C D v w t = go (dec_le (b * c) (a * d))
+  where
+    go : Dec (b * c ≤ a * d) → a * d < b * c
+    go (yes h) = absurd (not-le_of_lt (ltb-true (m * up e * down g) (n * up g * down e) t) (transfer (n * up g) (m * up e) (down g) (down e) b a d c D C w.1 v.1 h))
+    go (no h) = lt_of_not-le h
+
+pub lt-false : (x y : Float) (a c b d : ℕ) → HasValue x false a c → HasValue y false b d → lt x y ≡ false → b * c ≤ a * d
+unfolding lt
+lt-false nan y a c b d v w t = absurd v
+lt-false (inf s) y a c b d v w t = absurd v
+lt-false (fin true m e) y a c b d v w t = absurd (true≢false v.0)
+lt-false (fin false m e) nan a c b d v w t = absurd w
+lt-false (fin false m e) (inf s) a c b d v w t = absurd w
+lt-false (fin false m e) (fin true n g) a c b d v w t = absurd (true≢false w.0)
+lt-false (fin false m e) (fin false n g) a c b d v w t =
+    transfer b a d c (n * up g) (m * up e) (down g) (down e) (down_pos g) (down_pos e) (sym w.1) (sym v.1) (ltb-false (m * up e * down g) (n * up g * down e) t)
 
 -- ---- a value that fits is below 2 ^ 1024, and a whole one is its own rounding
 pub fits_under : (f : Format) (s : Bool) (m : ℕ) (e : ℤ) → T (fits f (fin s m e)) → m * up e < 2 ^ suc (emax f) * down e

@@ -29,4 +29,4 @@ returns-then-x c = c.nearest_u64_to_f64.ensures
     c.truncating_f64_to_u64-t.result c.truncating_f64_to_u64-t.ensures
 
 pub returns-else-x : goal.returns-else-x
-returns-else-x c = sym (laws.big c.args.x (held (goal.at.returns-else-x c).Start) c.requires c.if-x.false)
+returns-else-x c = sym (laws.big c.args.x (held (goal.at.returns-else-x c).Start) c.requires c.if-x.false).0

@@ -16,4 +16,4 @@ pub returns-then-x-2 : goal.returns-then-x-2
 returns-then-x-2 c = ap neg c.half_up-then-x-2.ensures ∙ laws.neg-round c.args.x
 
 pub returns-else-x-2 : goal.returns-else-x-2
-returns-else-x-2 c = sym (laws.still c.args.x (held (goal.at.returns-else-x-2 c).Start) c.if-x.false c.if-x-2.false)
+returns-else-x-2 c = sym (laws.still c.args.x (held (goal.at.returns-else-x-2 c).Start) c.if-x.false c.if-x-2.false).0
