@@ -15,8 +15,8 @@ use Rattle.surfaces.specs.declared.steps.Axis.TheVariants.{U, «V»}
 use Rattle.surfaces.specs.declared.surface.Surface.{Surface}
 use Rattle.surfaces.specs.Domains.{domain_of}
 use Rattle.surfaces.specs.Rungs.{rungs}
-use Rattle.surfaces.proofs.knots.Rungs.{rungs-few, rungs_some, rungs-end}
-use Rattle.full_domain.specs.Boundary.{is_whole, clamped, range_of, steps_of, rungs_of, RungsEnd, walked, sides, sides_of, whole_corners}
+use Rattle.surfaces.proofs.knots.Rungs.{rungs-few, rungs_some, rungs-end, end-written}
+use Rattle.full_domain.specs.Boundary.{is_whole, clamped, range_of, steps_of, rungs_of, RungsEnd, RungsWritten, walked, sides, sides_of, whole_corners}
 
 -- ---- the rungs of a direction
 
@@ -40,9 +40,11 @@ module _ (a : Axis) (s : Surface) (o : Resolved) where
         let h : r ≡ length (rungs_of a s o) - 1 = rw (range, steps) at e in
         ((h, let f = few in omega arith), rungs-end (range_of a s).lo (range_of a s).hi (steps_of a s o) r h)
 
-    pub laid : (z r : List Float) → r ≡ sets z 0 (drop 0 (rungs i.lo i.hi n)) → r ≡ sets z 0 (rungs_of a s o)
+    pub laid : (z r : List Float) → r ≡ sets z 0 (drop 0 (rungs i.lo i.hi n)) → (r ≡ sets z 0 (rungs_of a s o)) × RungsWritten a s o r
     unfolding rungs_of
-    laid z r e = rw (range, steps) at e
+    laid z r e =
+        let h : r ≡ sets z 0 (rungs_of a s o) = rw (range, steps) at e in
+        (h, end-written (range_of a s).lo (range_of a s).hi (steps_of a s o) 0 z r h)
 
 -- ---- the sides
 
