@@ -117,6 +117,15 @@ module _ (t : List Held) (counts : List ℕ) (k from m end : ℕ) (o : List Held
   m_all : m ≡ length (get_or all k [])
   m_all = m_is ∙ sym (length-rows o) ∙ ap length o_is
 
+  pub sum_within : from + m ≤ end
+  sum_within =
+      let e = end_all in
+      let l : length (flatten all) ≡ length (flatten (take k all)) + length (get_or all k [] ++ flatten (drop (suc k) all)) = ap length (flat_split k all) ∙ length-append (flatten (take k all)) (get_or all k [] ++ flatten (drop (suc k) all)) in
+      let r = length-append (get_or all k []) (flatten (drop (suc k) all)) in
+      let f = from_is in
+      let g = m_all in
+      omega arith
+
   pub first_is : (s d d' : List Held) → s ≡ take end t → d' ≡ placed 0 (part_first from m s) d → rows d' ≡ placed 0 (flatten (part_first k 1 all)) (rows d)
   first_is s d d' s_is e =
       let flat : rows s ≡ flatten all = ap rows s_is ∙ rows_take end t ∙ front-pieces counts (rows t) end end_all in
