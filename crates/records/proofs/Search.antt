@@ -133,6 +133,22 @@ split test k (suc m) n =
     let f : k + suc m ≡ suc k + m = omega arith in
     rw (e, f) (ap (cond (test k) (at k)) (split test (suc k) m n) ∙ or_else_cond (test k) k (first_from test (suc k) m) (first_from test (suc k + m) n))
 
+-- a part that counts from its own begin
+abbrev pub shifted : ℕ → Place → Place
+shifted k nowhere = nowhere
+shifted k (at j) = at (k + j)
+
+shifted-cond : (b : Bool) (k i : ℕ) (p : Place) → cond b (at (k + i)) (shifted k p) ≡ shifted k (cond b (at i) p)
+shifted-cond true k i p = refl
+shifted-cond false k i p = refl
+
+pub shift : (test : ℕ → Bool) (k i n : ℕ) → first_from test (k + i) n ≡ shifted k (first_from (λ j. test (k + j)) i n)
+unfolding first_from
+shift test k i zero = refl
+shift test k i (suc n) =
+    let e : suc (k + i) ≡ k + suc i = omega arith in
+    rw e (ap (cond (test (k + i)) (at (k + i))) (shift test k (suc i) n) ∙ shifted-cond (test (k + i)) k i (first_from (λ j. test (k + j)) (suc i) n))
+
 -- ---- a loop that has come to k: the test was true nowhere before
 
 pub record Seeking (test : ℕ → Bool) (n k : ℕ) : Type 0 where
