@@ -63,7 +63,7 @@ module _ (r : Corners Vec3) (n : ℕ) (n_is : n ≡ length r) where
 
 module _ (counts : List ℕ) (r : Corners Vec3) (ws : List ℤ) where
   -- what `find` says of its answer
-  abbrev Opening : Option ℕ → Type 0
+  abbrev pub Opening : Option ℕ → Type 0
   Opening p = MatchOption p ((k : ℕ) → 0 ≤ k → k < length counts → open_at (pieces counts r) ws k ≡ false)
       (λ i. (0 ≤ i) × (i < length counts) × (open_at (pieces counts r) ws i ≡ true) × ((k : ℕ) → 0 ≤ k → k < i → open_at (pieces counts r) ws k ≡ false))
 

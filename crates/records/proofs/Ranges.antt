@@ -55,18 +55,26 @@ range_ends kind n i =
     (either ((i - head_reals) % 2 =? 0) _ _ (either (kind =? plane) _ _ refl refl) (either (kind ≤? cone) _ _ refl refl))
     refl)
 
-bounded : (a b x : Float) → (finite a && finite b) ≡ true → (le a x && le x b) ≡ holds (a to b) x
+pub bounded : (a b x : Float) → finite a ≡ true → finite b ≡ true → (le a x && le x b) ≡ holds (a to b) x
 unfolding holds le lt eq
-bounded nan b x p = absurd (true≢false (sym p))
-bounded (inf s) b x p = absurd (true≢false (sym p))
-bounded (fin s m e) nan x p = absurd (true≢false (sym p))
-bounded (fin s m e) (inf t) x p = absurd (true≢false (sym p))
-bounded (fin s m e) (fin t n d) nan p = refl
-bounded (fin s m e) (fin t n d) (inf false) p = refl
-bounded (fin s m e) (fin t n d) (inf true) p = refl
-bounded (fin s m e) (fin t n d) (fin r l c) p = refl
+bounded nan b x p q = absurd (true≢false (sym p))
+bounded (inf s) b x p q = absurd (true≢false (sym p))
+bounded (fin s m e) nan x p q = absurd (true≢false (sym q))
+bounded (fin s m e) (inf t) x p q = absurd (true≢false (sym q))
+bounded (fin s m e) (fin t n d) nan p q = refl
+bounded (fin s m e) (fin t n d) (inf false) p q = refl
+bounded (fin s m e) (fin t n d) (inf true) p q = refl
+bounded (fin s m e) (fin t n d) (fin r l c) p q = refl
+
+-- the same, where the ends are told at once
+both_ends : (a b x : Float) → (finite a && finite b) ≡ true → (le a x && le x b) ≡ holds (a to b) x
+both_ends a b x e = by (finite a) (finite b) refl refl e
+  where
+    by : (p q : Bool) → finite a ≡ p → finite b ≡ q → (p && q) ≡ true → (le a x && le x b) ≡ holds (a to b) x
+    by true q ea eb h = bounded a b x ea (eb ∙ h)
+    by false q ea eb h = absurd (true≢false (sym h))
 
 -- what the code finds of x, where it has the range of real i in hand
 pub contained : (kind n i : ℕ) (r : Held) (x : Float) → range_of r ≡ range kind n i → (le r.low x && le x r.high) ≡ holds (range kind n i) x
 contained kind n i r x e =
-    bounded r.low r.high x (ap ends e ∙ range_ends kind n i) ∙ ap (λ (q : Range). holds q x) e
+    both_ends r.low r.high x (ap ends e ∙ range_ends kind n i) ∙ ap (λ (q : Range). holds q x) e

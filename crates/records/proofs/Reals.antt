@@ -62,7 +62,7 @@ module _ (s : List ℕ) where
   abbrev xyz_part : Place
   xyz_part = part (head_reals + 2 * points s) (3 * points s)
 
-  parts : first_bad_real s ≡ or_else (part 0 head_reals) (or_else uv_part xyz_part)
+  pub parts : first_bad_real s ≡ or_else (part 0 head_reals) (or_else uv_part xyz_part)
   unfolding first_bad_real
   parts =
       let n = points s in

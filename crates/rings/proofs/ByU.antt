@@ -69,7 +69,7 @@ module _ {A : Type 0} (u : A → Float) (slid : Move → A → A) (period cut : 
       aligned : r₁ ≡ align_at (slid (Up period)) (slid (Down (branch_shift (get_or (map u r) (nearest period cut (map u r)) nan) cut period))) (nearest period cut (map u r)) r
       aligned = e₁ ∙ (λ i. align_at (slid (Up period)) (slid (Down (by i))) (k_is i) r)
 
-us-bare : (u : List Float) → us (bare u) ≡ u
+pub us-bare : (u : List Float) → us (bare u) ≡ u
 us-bare [] = refl
 us-bare (x ∷ u) = ap (λ l. x ∷ l) (us-bare u)
 

@@ -14,7 +14,7 @@ use Rattle.loops.proofs.rows.Area.{Summing, summing, summing_turn}
 use Rattle.loops.proofs.wrap.Laws.{net_of_few, net_of_more}
 
 module _ (t : List Held) where
-  count_both : length t ≡ min (length (us (rows t))) (length (vs (rows t)))
+  pub count_both : length t ≡ min (length (us (rows t))) (length (vs (rows t)))
   count_both = let u = length-us t in let v : length (vs (rows t)) ≡ length (rows t) = length-map (rows t) (λ (c : Corner Vec3). c.v) in let r = length-rows t in omega arith
 
   -- ---- the area
