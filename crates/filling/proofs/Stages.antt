@@ -6,10 +6,13 @@ use native.Mathlib.Omega.{arith}
 use borrow.Author.Tests.{ne_eqb}
 use lib.IntN.{ℤ}
 use lib.Ieee.{Float, nan}
-use lib.ListN.{length, get_or, take, replicate}
+use lib.ListN.{length, length-map, get_or, take, replicate}
 use Rattle.std.proofs.Common.{Option}
 use Rattle.lists.specs.Pieces.{pieces}
 use Rattle.lists.specs.Placed.{placed}
+use Rattle.lists.proofs.Maps.{map-take}
+use Rattle.lists.proofs.Pieces.{length-pieces}
+use Rattle.lists.proofs.Placed.{front-placed}
 use Rattle.surfaces.specs.declared.patch.Patch.{Patch}
 use Rattle.surfaces.specs.declared.surface.Surface.{Surface}
 use Rattle.filling.specs.Band.{patch_in}
@@ -38,7 +41,7 @@ use Rattle.loop_records.specs.Loops.{records_from}
 use Rattle.measuring.proofs.Heads.{frame_read, surface_read, options_read}
 use Rattle.call.proofs.Judged.{wrapping_in}
 use Rattle.measuring.proofs.Measured.{wraps_shown, areas_shown}
-use Rattle.loop_records.proofs.Recorded.{read_out}
+use Rattle.loop_records.proofs.Recorded.{length_records, read_out}
 use Rattle.std.specs.Prelude.{Result, Err}
 use Rattle.records.specs.declared.refusal.Refusal.{Refusal}
 use Rattle.records.specs.Answers.{refusal_number, refusal_place}
@@ -170,13 +173,23 @@ module _ (s : List ℕ) (a : Accepted version1 s) (head : List Float) (counts : 
     records_in = recorded ∙ ap (λ (q : Option Float). placed 0 (records_from q 0 (pieces counts (rows t))) (replicate 16 no_loop)) p_is
 
     module _ (l : ℕ) (l_is : l ≡ length counts) where
-      pub wraps_in_lem : (w : List ℤ) → w ≡ map (λ (one : LoopRecord). one.wrap) records → take l w ≡ wraps_in s
-      wraps_in_lem w e =
-          ap (λ (k : ℕ). take k w) l_is ∙ read_out (λ (one : LoopRecord). one.wrap) p counts (rows t) records w few-counts recorded e
+      -- f of the first records, put into the front of a lent slice, and read there
+      front_read : {B : Type 0} (f : LoopRecord → B) (b₀ b : List B) → 16 ≤ length b₀ → b ≡ placed 0 (map f (take l records)) b₀
+          → take l b ≡ map f (records_from p 0 (pieces counts (rows t)))
+      front_read f b₀ b room e =
+          let few = few-counts in
+          let w : List _ = map f (records_from p 0 (pieces counts (rows t))) in
+          let read : map f (take l records) ≡ w = ap (λ (k : ℕ). map f (take k records)) l_is ∙ map-take f (length counts) records
+          ∙ read_out f p counts (rows t) records (map f records) few-counts recorded refl in
+          let many : length w ≡ l = length-map (records_from p 0 (pieces counts (rows t))) f ∙ length_records p 0 (pieces counts (rows t)) ∙ length-pieces counts (rows t) ∙ sym l_is in
+          (λ i. take (sym many i) ((e ∙ ap (λ (xs : List _). placed 0 xs b₀) read) i)) ∙ front-placed w b₀ (omega arith)
+
+      pub wraps_in_lem : (w₀ w : List ℤ) → 16 ≤ length w₀ → w ≡ placed 0 (map (λ (one : LoopRecord). one.wrap) (take l records)) w₀ → take l w ≡ wraps_in s
+      wraps_in_lem w₀ w room e =
+          front_read (λ (one : LoopRecord). one.wrap) w₀ w room e
           ∙ ap (λ (q : Option Float). map (λ (one : LoopRecord). one.wrap) (records_from q 0 (pieces counts (rows t)))) (p_is ∙ ap u_period surface_is)
           ∙ wraps_shown s (pieces counts (rows t)) held
 
-      pub areas_in : (m : List Float) → m ≡ map (λ (one : LoopRecord). one.area) records → take l m ≡ map signed_area (pieces counts (rows t))
-      areas_in m e =
-          ap (λ (k : ℕ). take k m) l_is ∙ read_out (λ (one : LoopRecord). one.area) p counts (rows t) records m few-counts recorded e
-          ∙ areas_shown p 0 (pieces counts (rows t))
+      pub areas_in : (m₀ m : List Float) → 16 ≤ length m₀ → m ≡ placed 0 (map (λ (one : LoopRecord). one.area) (take l records)) m₀
+          → take l m ≡ map signed_area (pieces counts (rows t))
+      areas_in m₀ m room e = front_read (λ (one : LoopRecord). one.area) m₀ m room e ∙ areas_shown p 0 (pieces counts (rows t))

@@ -71,9 +71,11 @@ fn fill_record(face: &[u8], out: &mut ResultLoops) -> Result<FilledFace, Refusal
     let loops = measure_loops(given, surface.u_period());
     // The refusals are defined over a list of wraps, and the closed path changes a list of areas where
     // it is: both stand beside the records.
-    let wraps = wraps_of(loops);
+    let mut wraps = [0; 16];
+    wraps_of(loops, l, &mut wraps);
     let wraps = &wraps[..l];
-    let mut areas = areas_of(loops);
+    let mut areas = [0.0; 16];
+    areas_of(loops, l, &mut areas);
     check_rings(kind(face), given, wraps)?;
     let read = ReadFace {
         bytes: face,

@@ -1,7 +1,10 @@
 -- What is read of each record, one behind the other.
-use Rattle.std.proofs.Common.{◌≡◌, ◌<◌, ℕ, List, length, get_or, map, arith, sym, ◌∙◌}
+use Rattle.std.proofs.Common.{◌≡◌, ◌<◌, ℕ, List, length, get_or, map, take, arith, sym, ap, ◌∙◌}
 use lib.ListN.{length-map}
 use Rattle.std.proofs.lemmas.List.{same_lists, get_or-map}
+use Rattle.lists.specs.Parts.{part_of}
+use Rattle.lists.specs.Placed.{placed}
+use Rattle.lists.proofs.Maps.{map-take}
 use Rattle.loop_records.specs.declared.LoopRecord.{LoopRecord}
 use Rattle.loop_records.specs.Record.{no_loop}
 
@@ -10,3 +13,9 @@ pub column : {B : Type 0} (f : LoopRecord → B) (loops : List LoopRecord) (ys :
 column f loops ys long many each =
     let l = length-map loops f in
     same_lists ys (map f loops) (omega arith) (λ i e h. each i e (omega arith) ∙ sym (get_or-map f loops i no_loop e (omega arith)))
+
+-- of the first n, put into the front of a list
+pub column_put : {B : Type 0} (f : LoopRecord → B) (loops : List LoopRecord) (n : ℕ) (ys piece old new : List B) → ys ≡ map f loops → piece ≡ part_of 0 n ys
+    → new ≡ placed 0 piece old → new ≡ placed 0 (map f (take n loops)) old
+unfolding part_of
+column_put f loops n ys piece old new all cut put = put ∙ ap (λ (l : List _). placed 0 l old) (cut ∙ ap (take n) all ∙ sym (map-take f n loops))

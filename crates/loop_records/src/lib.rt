@@ -1,8 +1,11 @@
 // The loops of a face as a list of records.
 #![tactic(auto)]
 
-ghost use Rattle.std.specs.Prelude.{◌≡◌, map};
+ghost use Rattle.std.specs.Prelude.{◌≡◌, map, take};
+ghost use Rattle.lists.specs.Placed.{placed};
 ghost use Rattle.loop_records.specs.Record.{no_loop};
+
+use tables::slices::{copy_into, part};
 
 pub mod measure;
 pub mod ring;
@@ -29,16 +32,18 @@ fn no_loop() -> LoopRecord
     }
 }
 
-// The wraps of the loops.
-pub fn wraps_of(loops: [LoopRecord; 16]) -> [i32; 16]
-    ensures { result ≡ map (λ (l : LoopRecord). l.wrap) loops }
+// The wraps of the first n loops into the front of `wraps`, and nothing where they do not fit.
+pub fn wraps_of(loops: [LoopRecord; 16], n: usize, wraps: &mut [i32])
+    ensures { wraps.new ≡ placed 0 (map (λ (l : LoopRecord). l.wrap) (take n loops)) wraps.old }
 {
-    loops.map(|one| one.wrap)
+    let all = loops.map(|one| one.wrap);
+    copy_into(wraps, 0, part(&all, 0, n));
 }
 
 // Their areas.
-pub fn areas_of(loops: [LoopRecord; 16]) -> [f64; 16]
-    ensures { result ≡ map (λ (l : LoopRecord). l.area) loops }
+pub fn areas_of(loops: [LoopRecord; 16], n: usize, areas: &mut [f64])
+    ensures { areas.new ≡ placed 0 (map (λ (l : LoopRecord). l.area) (take n loops)) areas.old }
 {
-    loops.map(|one| one.area)
+    let all = loops.map(|one| one.area);
+    copy_into(areas, 0, part(&all, 0, n));
 }

@@ -39,8 +39,8 @@ returns-in_err-check_rings c = λ a.
     c.read_corners.ensures refl _ c.unwrap_or-e.ensures in
     let many = counts_many _ _ _ _ c.read_counts.ensures (omega arith) _ c.unwrap_or-l.ensures in
     let surface_is = surface_in_lem _ a _ _ _ read _ c.kind.ensures _ _ c.at.ensures c.at-2.ensures _ c.surface_of-surface.ensures in
-    let wraps_are = wraps_in_lem _ a _ _ _ read _ surface_is _ c.u_period.ensures _ c.measure_loops-loops.ensures _ many _
-    c.wraps_of-wraps.ensures in
+    let wraps_are = wraps_in_lem _ a _ _ _ read _ surface_is _ c.u_period.ensures _ c.measure_loops-loops.ensures _ many _ _ (omega arith)
+    c.wraps_of.ensures in
     let p = err_from_is_err_and c.from_residual.result c.from_residual.ensures.1 in
     rw (p.1, p.2) (refused_as _ ring_conditions (strip_conditions version1) _
     (c.in_err-check_rings.ensures ∙ rings_judged _ _ (held _ a _ _ _ read) _ wraps_are _ c.kind-2.ensures) _)
@@ -51,8 +51,8 @@ returns c = λ a.
     c.read_corners.ensures refl _ c.unwrap_or-e.ensures in
     let many = counts_many _ _ _ _ c.read_counts.ensures (omega arith) _ c.unwrap_or-l.ensures in
     let surface_is = surface_in_lem _ a _ _ _ read _ c.kind.ensures _ _ c.at.ensures c.at-2.ensures _ c.surface_of-surface.ensures in
-    let wraps_are = wraps_in_lem _ a _ _ _ read _ surface_is _ c.u_period.ensures _ c.measure_loops-loops.ensures _ many _
-    c.wraps_of-wraps.ensures in
+    let wraps_are = wraps_in_lem _ a _ _ _ read _ surface_is _ c.u_period.ensures _ c.measure_loops-loops.ensures _ many _ _ (omega arith)
+    c.wraps_of.ensures in
     let found = c.in_ok-check_rings.ensures ∙ rings_judged _ _ (held _ a _ _ _ read) _ wraps_are _ c.kind-2.ensures in
     filled_as _ ring_conditions (strip_conditions version1) found _ _
     (c.fill_path.ensures
@@ -61,7 +61,8 @@ returns c = λ a.
       read = read;
       loops_are = records_in _ a _ _ _ read _ surface_is _ c.u_period.ensures _ c.measure_loops-loops.ensures;
       wraps_are = wraps_are;
-      areas_are = areas_in _ a _ _ _ read _ surface_is _ c.u_period.ensures _ c.measure_loops-loops.ensures _ many _ c.areas_of-areas.ensures;
+      areas_are = areas_in _ a _ _ _ read _ surface_is _ c.u_period.ensures _ c.measure_loops-loops.ensures _ many _ _ (omega arith)
+          c.areas_of.ensures;
       surface_is = surface_is;
     })
     (sym found))
