@@ -11,7 +11,7 @@ use super::corners::Corner;
 use numbers::math::Vec3;
 
 // What `read` gives of each corner into the front of dst.
-pub(crate) fn column_into<F: Fn(Corner) -> f64>(dst: &mut [f64], t: &[Corner], read: F)
+fn column_into<F: Fn(Corner) -> f64>(dst: &mut [f64], t: &[Corner], read: F)
     requires { F.IsAlwaysCallable read }
     ensures { (of : CornerOf Vec3 → Float) → Reads (F.post read) of → dst.new ≡ placed 0 (map of (rows t.now)) dst.old }
 {
@@ -22,6 +22,14 @@ pub(crate) fn column_into<F: Fn(Corner) -> f64>(dst: &mut [f64], t: &[Corner], r
     for (i, c) in t.iter().enumerate() {
         dst[i] = read(*c);
     }
+}
+
+// The u of each corner, for `copies`: `column_into` has a premise, that `read` can be called, and is
+// private for it.
+pub(crate) fn u_into(dst: &mut [f64], t: &[Corner])
+    ensures { dst.new ≡ placed 0 (us (rows t.now)) dst.old }
+{
+    column_into(dst, t, |c| c.u);
 }
 
 // Each column into the front of its slice.
