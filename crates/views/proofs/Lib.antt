@@ -1,0 +1,9 @@
+pub mod Same
+pub mod Retyped
+pub mod Reals
+pub mod View
+pub mod Lent
+pub mod CornerRows
+pub mod CornerCells
+pub mod BoxRows
+pub mod BoxCells
