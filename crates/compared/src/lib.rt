@@ -3,6 +3,11 @@
 // and paths are numbers of 32 bits there, as a C enum is, a period is 0.0 for none, and what may be
 // missing has a flag beside it. What turns such a number into a type of another crate is a function, as
 // that type's `From` could stand in its own crate alone.
+//
+// A table is a slice of reals in C, five to a corner or four to a box; what stands behind its last whole
+// row is no row, and stays. An export that only reads a table takes a `&mut` of it all the same, as there
+// is no view of a `&[f64]` as corners. C passes the same pointer and length for it, a `const double *` too:
+// the layer below is lent a `&`, so nothing is written, and `unchanged` says that every real is as it was.
 #![tactic(auto)]
 
 pub mod of_closed_region;

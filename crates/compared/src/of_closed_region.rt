@@ -8,46 +8,60 @@ ghost use Rattle.closed_region.specs.Holes.{rephased_rows, rephased_areas};
 ghost use Rattle.closed_region.specs.Loops.{box_in};
 ghost use Rattle.closed_region.specs.Outer.{outer_of};
 ghost use Rattle.closed_region.specs.Region.{outer_among};
+ghost use Rattle.views.specs.BoxTables.{boxes_of, rest_of as behind_boxes};
+ghost use Rattle.views.specs.Tables.{corners_of, rest_of};
 ghost use Rattle.compared.specs.Surfaces.{period_of};
 
 use super::of_surfaces::period_of;
-use closed_region::boxes::Bounds;
-use tables::corners::Corner;
 use tables::loops::Loops;
+use views::boxes::split_boxes_mut;
+use views::corners::split_corners_mut;
 
 #[unsafe(no_mangle)]
+#[tactic(auto, using(views::proofs::CornerRows::table_whole, views::proofs::BoxRows::items_after, views::proofs::BoxRows::rest_after))]
 pub extern "C" fn compared_closed_region(
-    t: &[Corner],
+    t: &mut [f64],
     counts: &[usize],
     areas: &[f64],
-    boxes: &mut [Bounds],
+    boxes: &mut [f64],
 ) -> usize
-    ensures value { result ≡ outer_among (pieces counts.now (rows t.now)) areas.now (length boxes.old) }
-    ensures boxes_after { boxes.new ≡ placed 0 (map box_in (pieces counts.now (rows t.now))) boxes.old }
+    ensures unchanged { t.new ≡ t.old }
+    ensures value { result ≡ outer_among (pieces counts.now (rows (corners_of t.old))) areas.now (length (boxes_of boxes.old)) }
+    ensures boxes_after { boxes_of boxes.new ≡ placed 0 (map box_in (pieces counts.now (rows (corners_of t.old)))) (boxes_of boxes.old) }
+    ensures behind { behind_boxes boxes.new ≡ behind_boxes boxes.old }
 {
-    closed_region::region::closed_region(Loops { corners: t, counts }, areas, boxes)
+    let (corners, _) = split_corners_mut(t);
+    let (held, _) = split_boxes_mut(boxes);
+    let loops = Loops { corners, counts };
+    closed_region::region::closed_region(loops, areas, held)
 }
 
 #[unsafe(no_mangle)]
-pub extern "C" fn compared_outer_loop(boxes: &[Bounds], areas: &[f64]) -> usize
-    ensures { result ≡ outer_of boxes.now areas.now }
+#[tactic(auto, using(views::proofs::BoxRows::table_whole))]
+pub extern "C" fn compared_outer_loop(boxes: &mut [f64], areas: &[f64]) -> usize
+    ensures unchanged { boxes.new ≡ boxes.old }
+    ensures value { result ≡ outer_of (boxes_of boxes.old) areas.now }
 {
-    closed_region::enclosing::outer_loop(boxes, areas)
+    let (held, _) = split_boxes_mut(boxes);
+    closed_region::enclosing::outer_loop(held, areas)
 }
 
 #[unsafe(no_mangle)]
+#[tactic(auto, using(views::proofs::CornerRows::items_after, views::proofs::CornerRows::rest_after))]
 pub extern "C" fn compared_rephase_holes(
-    t: &mut [Corner],
+    t: &mut [f64],
     counts: &[usize],
     areas: &mut [f64],
     outer: usize,
     uperiod: f64,
     vperiod: f64,
 )
-    ensures t_after { rows t.new ≡ rephased_rows outer (period_length (period_of uperiod)) (period_length (period_of vperiod)) (pieces counts.now (rows t.old)) areas.old (rows t.old) }
-    ensures areas_after { areas.new ≡ rephased_areas outer (period_length (period_of uperiod)) (period_length (period_of vperiod)) (pieces counts.now (rows t.old)) areas.old }
+    ensures t_after { rows (corners_of t.new) ≡ rephased_rows outer (period_length (period_of uperiod)) (period_length (period_of vperiod)) (pieces counts.now (rows (corners_of t.old))) areas.old (rows (corners_of t.old)) }
+    ensures behind { rest_of t.new ≡ rest_of t.old }
+    ensures areas_after { areas.new ≡ rephased_areas outer (period_length (period_of uperiod)) (period_length (period_of vperiod)) (pieces counts.now (rows (corners_of t.old))) areas.old }
 {
     let u = period_of(uperiod);
     let v = period_of(vperiod);
-    closed_region::holes::rephase_holes(t, counts, areas, outer, u, v);
+    let (corners, _) = split_corners_mut(t);
+    closed_region::holes::rephase_holes(corners, counts, areas, outer, u, v);
 }

@@ -1,4 +1,4 @@
-// The leaf functions on one loop; `t` is its table of corners.
+// The leaf functions on one loop; `t` is its table, five reals a corner.
 ghost use Rattle.std.specs.Prelude.{◌≡◌};
 ghost use Rattle.loops.specs.Area.{area_of};
 ghost use Rattle.loops.specs.Branch.{nearest_branch};
@@ -7,10 +7,11 @@ ghost use Rattle.loops.specs.Span.{least_of, greatest_of};
 ghost use Rattle.loops.specs.Wrap.{net_wrap};
 ghost use Rattle.tables.specs.Corners.{us, vs};
 ghost use Rattle.tables.specs.Rows.{rows};
+ghost use Rattle.views.specs.Tables.{corners_of};
 ghost use Rattle.compared.specs.Surfaces.{period_of};
 
 use super::of_surfaces::period_of;
-use tables::corners::Corner;
+use views::corners::split_corners_mut;
 
 #[unsafe(no_mangle)]
 pub extern "C" fn compared_nearest_branch(value: f64, reference: f64, period: f64) -> f64
@@ -20,36 +21,52 @@ pub extern "C" fn compared_nearest_branch(value: f64, reference: f64, period: f6
 }
 
 #[unsafe(no_mangle)]
-pub extern "C" fn compared_net_wrap(t: &[Corner], period: f64) -> i32
-    ensures { result ≡ net_wrap (period_of period) (us (rows t.now)) }
+#[tactic(auto, using(views::proofs::CornerRows::table_whole))]
+pub extern "C" fn compared_net_wrap(t: &mut [f64], period: f64) -> i32
+    ensures unchanged { t.new ≡ t.old }
+    ensures value { result ≡ net_wrap (period_of period) (us (rows (corners_of t.old))) }
 {
-    loops::rows::net_wrap(t, period_of(period))
+    let p = period_of(period);
+    let (corners, _) = split_corners_mut(t);
+    loops::rows::net_wrap(corners, p)
 }
 
 #[unsafe(no_mangle)]
-pub extern "C" fn compared_signed_area(t: &[Corner]) -> f64
-    ensures { result ≡ area_of (us (rows t.now)) (vs (rows t.now)) }
+#[tactic(auto, using(views::proofs::CornerRows::table_whole))]
+pub extern "C" fn compared_signed_area(t: &mut [f64]) -> f64
+    ensures unchanged { t.new ≡ t.old }
+    ensures value { result ≡ area_of (us (rows (corners_of t.old))) (vs (rows (corners_of t.old))) }
 {
-    loops::rows::signed_area(t)
+    let (corners, _) = split_corners_mut(t);
+    loops::rows::signed_area(corners)
 }
 
 #[unsafe(no_mangle)]
-pub extern "C" fn compared_mean_v(t: &[Corner]) -> f64
-    ensures { result ≡ mean_of (vs (rows t.now)) }
+#[tactic(auto, using(views::proofs::CornerRows::table_whole))]
+pub extern "C" fn compared_mean_v(t: &mut [f64]) -> f64
+    ensures unchanged { t.new ≡ t.old }
+    ensures value { result ≡ mean_of (vs (rows (corners_of t.old))) }
 {
-    wrapped_region::mean::mean_v(t)
+    let (corners, _) = split_corners_mut(t);
+    wrapped_region::mean::mean_v(corners)
 }
 
 #[unsafe(no_mangle)]
-pub extern "C" fn compared_least(t: &[Corner]) -> f64
-    ensures { result ≡ least_of (us (rows t.now)) }
+#[tactic(auto, using(views::proofs::CornerRows::table_whole))]
+pub extern "C" fn compared_least(t: &mut [f64]) -> f64
+    ensures unchanged { t.new ≡ t.old }
+    ensures value { result ≡ least_of (us (rows (corners_of t.old))) }
 {
-    rings::table_choices::least(t)
+    let (corners, _) = split_corners_mut(t);
+    rings::table_choices::least(corners)
 }
 
 #[unsafe(no_mangle)]
-pub extern "C" fn compared_greatest(t: &[Corner]) -> f64
-    ensures { result ≡ greatest_of (us (rows t.now)) }
+#[tactic(auto, using(views::proofs::CornerRows::table_whole))]
+pub extern "C" fn compared_greatest(t: &mut [f64]) -> f64
+    ensures unchanged { t.new ≡ t.old }
+    ensures value { result ≡ greatest_of (us (rows (corners_of t.old))) }
 {
-    rings::table_choices::greatest(t)
+    let (corners, _) = split_corners_mut(t);
+    rings::table_choices::greatest(corners)
 }

@@ -7,10 +7,11 @@ ghost use Rattle.records.specs.Lent.{filled_if, counts_fit, head_fits, points_fi
 ghost use Rattle.records.specs.Limits.{version1};
 ghost use Rattle.records.specs.Refusals.{record_conditions, verdict};
 ghost use Rattle.tables.specs.Rows.{rows};
+ghost use Rattle.views.specs.Tables.{corners_of, rest_of};
 ghost use Rattle.compared.specs.Records.{counted};
 
 use records::limits::version1;
-use tables::corners::Corner;
+use views::corners::split_corners_mut;
 
 // How many values or bytes there are: `done` is 0 where something lent was too short, else 1.
 #[repr(C)]
@@ -70,9 +71,12 @@ pub extern "C" fn compared_read_head(face: &[u8], dst: &mut [f64]) -> Counted
 }
 
 #[unsafe(no_mangle)]
-pub extern "C" fn compared_read_corners(face: &[u8], t: &mut [Corner]) -> Counted
-    ensures value { result ≡ counted (then_some (points_fit face.now (length (rows t.old))) (length (corners_in face.now))) }
-    ensures t_after { rows t.new ≡ filled_if (points_fit face.now (length (rows t.old))) (corners_in face.now) (rows t.old) }
+#[tactic(auto, using(views::proofs::CornerRows::items_after, views::proofs::CornerRows::rest_after))]
+pub extern "C" fn compared_read_corners(face: &[u8], t: &mut [f64]) -> Counted
+    ensures value { result ≡ counted (then_some (points_fit face.now (length (rows (corners_of t.old)))) (length (corners_in face.now))) }
+    ensures t_after { rows (corners_of t.new) ≡ filled_if (points_fit face.now (length (rows (corners_of t.old)))) (corners_in face.now) (rows (corners_of t.old)) }
+    ensures behind { rest_of t.new ≡ rest_of t.old }
 {
-    Counted::from(records::read::read_corners(face, t))
+    let (corners, _) = split_corners_mut(t);
+    Counted::from(records::read::read_corners(face, corners))
 }

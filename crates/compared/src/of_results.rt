@@ -5,12 +5,13 @@ ghost use Rattle.records.specs.Result.{encode};
 ghost use Rattle.std.specs.Bool.{then_some};
 ghost use Rattle.results.specs.Written.{path_of, table_result, length_of, size_of, result_fits};
 ghost use Rattle.tables.specs.Rows.{rows};
+ghost use Rattle.views.specs.Tables.{corners_of};
 ghost use Rattle.compared.specs.Records.{counted, path_from, room_of};
 
 use super::of_records::Counted;
 use results::{Path, RecordSize};
-use tables::corners::Corner;
 use tables::loops::Loops;
+use views::corners::split_corners_mut;
 
 // What a record takes: `holds` is 0 where a record cannot hold the counts, else 1.
 #[repr(C)]
@@ -58,15 +59,19 @@ pub extern "C" fn compared_result_size(counts: &[usize]) -> Room
 }
 
 #[unsafe(no_mangle)]
+#[tactic(auto, using(views::proofs::CornerRows::table_whole))]
 pub extern "C" fn compared_write_result(
     path: u32,
     counts: &[usize],
     areas: &[f64],
-    t: &[Corner],
+    t: &mut [f64],
     out: &mut [u8],
 ) -> Counted
-    ensures value { result ≡ counted (then_some (result_fits counts.now (length areas.now) (length (rows t.now)) (length out.old)) (length_of counts.now)) }
-    ensures out_after { out.new ≡ filled_if (result_fits counts.now (length areas.now) (length (rows t.now)) (length out.old)) (encode (table_result (path_of (path_from path)) counts.now areas.now (rows t.now))) out.old }
+    ensures unchanged { t.new ≡ t.old }
+    ensures value { result ≡ counted (then_some (result_fits counts.now (length areas.now) (length (rows (corners_of t.old))) (length out.old)) (length_of counts.now)) }
+    ensures out_after { out.new ≡ filled_if (result_fits counts.now (length areas.now) (length (rows (corners_of t.old))) (length out.old)) (encode (table_result (path_of (path_from path)) counts.now areas.now (rows (corners_of t.old)))) out.old }
 {
-    Counted::from(results::write_result(path_from(path), Loops { corners: t, counts }, areas, out))
+    let (corners, _) = split_corners_mut(t);
+    let loops = Loops { corners, counts };
+    Counted::from(results::write_result(path_from(path), loops, areas, out))
 }
