@@ -2,7 +2,7 @@
 //! ties, ends that miss by the slack, huge, infinite and undefined ones, zeros of either sign.
 
 use crate::branches::LEAST;
-use crate::compared::{self, Bounds};
+use crate::compared;
 use crate::items::Order;
 use crate::original::{UvLoop, Vec2, closed_region};
 use crate::patterns::{moved, number};
@@ -22,11 +22,11 @@ pub fn compare(run: &Run) {
         let random = &mut check.random;
         let boxes = boxes(random);
         let areas = areas(random, boxes.len());
-        let lent: Vec<Bounds> = boxes.iter().map(bounds).collect();
+        let lent = lent(random, &boxes);
         for ((_, times), (_, meets)) in met.iter_mut().zip(kinds(&boxes, &areas)) {
             *times += u64::from(meets);
         }
-        let given = [boxes.concat(), areas.clone()].concat();
+        let given = [lent.clone(), areas.clone()].concat();
         let rattle = compared::outer_loop(&lent, &areas) as f64;
         check.case(&given, &[rattle], &[all_pairs(&boxes, &areas) as f64]);
         // The Rust takes loops, whose lower ends lie above no upper one.
@@ -185,8 +185,13 @@ fn of_loops(boxes: &[Ends], areas: &[f64]) -> f64 {
     f64::from(outer.travel)
 }
 
-fn bounds(&[ulo, uhi, vlo, vhi]: &Ends) -> Bounds {
-    Bounds { ulo, uhi, vlo, vhi }
+/// The ends, four to a box; at times up to three more reals, which are no box, stand behind them.
+fn lent(random: &mut Random, boxes: &[Ends]) -> Vec<f64> {
+    let mut out = boxes.concat();
+    if random.one_in(4) {
+        out.extend((0..1 + random.below(3)).map(|_| number(random)));
+    }
+    out
 }
 
 /// Mostly as many as there are boxes; at times none, one fewer, or up to two more.

@@ -20,32 +20,6 @@ pub struct Placement {
     pub reference: Point,
 }
 
-/// A corner of a loop: a table is a slice of them.
-#[repr(C)]
-#[derive(Clone, Copy)]
-pub struct Corner {
-    pub u: f64,
-    pub v: f64,
-    pub at: Point,
-}
-
-impl Corner {
-    /// All five reals alike.
-    pub const fn filled(x: f64) -> Corner {
-        Corner { u: x, v: x, at: Point { x, y: x, z: x } }
-    }
-}
-
-/// The ends of a loop's box.
-#[repr(C)]
-#[derive(Clone, Copy)]
-pub struct Bounds {
-    pub ulo: f64,
-    pub uhi: f64,
-    pub vlo: f64,
-    pub vhi: f64,
-}
-
 /// A domain: its ends, and its periods or 0.
 #[repr(C)]
 #[derive(Clone, Copy)]
@@ -170,29 +144,29 @@ unsafe extern "C" {
     fn compared_inner_into(lo: f64, hi: f64, n: usize, out: *mut f64, out_len: usize) -> usize;
     #[link_name = "compared_nearest_branch"]
     pub safe fn nearest_branch(value: f64, reference: f64, period: f64) -> f64;
-    fn compared_net_wrap(t: *const Corner, t_len: usize, period: f64) -> i32;
-    fn compared_signed_area(t: *const Corner, t_len: usize) -> f64;
-    fn compared_mean_v(t: *const Corner, t_len: usize) -> f64;
-    fn compared_least(t: *const Corner, t_len: usize) -> f64;
-    fn compared_greatest(t: *const Corner, t_len: usize) -> f64;
+    fn compared_net_wrap(t: *const f64, t_len: usize, period: f64) -> i32;
+    fn compared_signed_area(t: *const f64, t_len: usize) -> f64;
+    fn compared_mean_v(t: *const f64, t_len: usize) -> f64;
+    fn compared_least(t: *const f64, t_len: usize) -> f64;
+    fn compared_greatest(t: *const f64, t_len: usize) -> f64;
     fn compared_closed_region(
-        t: *const Corner,
+        t: *const f64,
         t_len: usize,
         counts: *const usize,
         counts_len: usize,
         areas: *const f64,
         areas_len: usize,
-        boxes: *mut Bounds,
+        boxes: *mut f64,
         boxes_len: usize,
     ) -> usize;
     fn compared_outer_loop(
-        boxes: *const Bounds,
+        boxes: *const f64,
         boxes_len: usize,
         areas: *const f64,
         areas_len: usize,
     ) -> usize;
     fn compared_rephase_holes(
-        t: *mut Corner,
+        t: *mut f64,
         t_len: usize,
         counts: *const usize,
         counts_len: usize,
@@ -218,7 +192,7 @@ unsafe extern "C" {
         sag: f64,
         angle: f64,
         segments: usize,
-        t: *mut Corner,
+        t: *mut f64,
         t_len: usize,
     ) -> f64;
     fn compared_refusal(face: *const u8, face_len: usize) -> u8;
@@ -238,7 +212,7 @@ unsafe extern "C" {
     fn compared_read_corners(
         face: *const u8,
         face_len: usize,
-        t: *mut Corner,
+        t: *mut f64,
         t_len: usize,
     ) -> Counted;
     fn compared_result_size(counts: *const usize, counts_len: usize) -> Room;
@@ -248,7 +222,7 @@ unsafe extern "C" {
         counts_len: usize,
         areas: *const f64,
         areas_len: usize,
-        t: *const Corner,
+        t: *const f64,
         t_len: usize,
         out: *mut u8,
         out_len: usize,
@@ -302,34 +276,34 @@ pub fn inner_into(lo: f64, hi: f64, n: usize, out: &mut [f64]) -> usize {
     unsafe { compared_inner_into(lo, hi, n, out.as_mut_ptr(), out.len()) }
 }
 
-pub fn net_wrap(corners: &[Corner], period: f64) -> i32 {
+pub fn net_wrap(corners: &[f64], period: f64) -> i32 {
     unsafe { compared_net_wrap(corners.as_ptr(), corners.len(), period) }
 }
 
-pub fn signed_area(corners: &[Corner]) -> f64 {
+pub fn signed_area(corners: &[f64]) -> f64 {
     unsafe { compared_signed_area(corners.as_ptr(), corners.len()) }
 }
 
-pub fn mean_v(corners: &[Corner]) -> f64 {
+pub fn mean_v(corners: &[f64]) -> f64 {
     unsafe { compared_mean_v(corners.as_ptr(), corners.len()) }
 }
 
 /// The least u of a loop's corners.
-pub fn least(corners: &[Corner]) -> f64 {
+pub fn least(corners: &[f64]) -> f64 {
     unsafe { compared_least(corners.as_ptr(), corners.len()) }
 }
 
 /// The greatest.
-pub fn greatest(corners: &[Corner]) -> f64 {
+pub fn greatest(corners: &[f64]) -> f64 {
     unsafe { compared_greatest(corners.as_ptr(), corners.len()) }
 }
 
-/// Writes the boundary of a whole surface from the first corner on, and answers its area.
+/// Writes the boundary of a whole surface to the first rows, and answers its area.
 pub fn full_domain_loop(
     surface: &Surface,
     frame: Placement,
     tolerances: &Tolerances,
-    corners: &mut [Corner],
+    corners: &mut [f64],
 ) -> f64 {
     let [a, b] = surface.sizes;
     let Tolerances { sag, angle, segments } = *tolerances;
@@ -354,8 +328,8 @@ pub fn read_head(face: &[u8], lent: &mut [f64]) -> Option<usize> {
     unsafe { compared_read_head(face.as_ptr(), face.len(), lent.as_mut_ptr(), lent.len()) }.number()
 }
 
-/// How many points there are; they are written.
-pub fn read_corners(face: &[u8], lent: &mut [Corner]) -> Option<usize> {
+/// How many points there are; they are written, a row each.
+pub fn read_corners(face: &[u8], lent: &mut [f64]) -> Option<usize> {
     unsafe { compared_read_corners(face.as_ptr(), face.len(), lent.as_mut_ptr(), lent.len()) }
         .number()
 }
@@ -371,7 +345,7 @@ pub fn write_result(
     path: u32,
     counts: &[usize],
     areas: &[f64],
-    corners: &[Corner],
+    corners: &[f64],
     out: &mut [u8],
 ) -> Option<usize> {
     let written = unsafe {
@@ -390,21 +364,15 @@ pub fn write_result(
     written.number()
 }
 
-/// Corners as a table holds them.
-pub fn corners(uv: &[Vec2], xyz: &[Vec3]) -> Vec<Corner> {
-    let at = |p: &Vec3| Point { x: p.x, y: p.y, z: p.z };
-    uv.iter().zip(xyz).map(|(c, p)| Corner { u: c.u, v: c.v, at: at(p) }).collect()
+/// Corners as the rows of a table: u, v, x, y, z.
+pub fn rows(uv: &[Vec2], xyz: &[Vec3]) -> Vec<f64> {
+    uv.iter().zip(xyz).flat_map(|(c, p)| [c.u, c.v, p.x, p.y, p.z]).collect()
 }
 
-/// Their reals, five to a corner.
-pub fn reals(corners: &[Corner]) -> Vec<f64> {
-    corners.iter().flat_map(|c| [c.u, c.v, c.at.x, c.at.y, c.at.z]).collect()
-}
-
-/// The loops of a face: their corners one behind the other.
+/// The loops of a face: their corners one behind the other, the rows of a table.
 #[derive(Clone, Default)]
 pub struct Table {
-    pub corners: Vec<Corner>,
+    pub corners: Vec<f64>,
     pub counts: Vec<usize>,
     pub areas: Vec<f64>,
 }
@@ -412,7 +380,7 @@ pub struct Table {
 /// The number of the outer loop.
 pub fn closed_region(table: &Table) -> usize {
     let Table { corners, counts, areas } = table;
-    let mut boxes = vec![Bounds { ulo: 0.0, uhi: 0.0, vlo: 0.0, vhi: 0.0 }; counts.len()];
+    let mut boxes = vec![0.0; 4 * counts.len()];
     unsafe {
         compared_closed_region(
             corners.as_ptr(),
@@ -427,8 +395,8 @@ pub fn closed_region(table: &Table) -> usize {
     }
 }
 
-/// The number of the outer loop, by the boxes and the areas.
-pub fn outer_loop(boxes: &[Bounds], areas: &[f64]) -> usize {
+/// The number of the outer loop, by the ends of the boxes, four to a box, and the areas.
+pub fn outer_loop(boxes: &[f64], areas: &[f64]) -> usize {
     unsafe { compared_outer_loop(boxes.as_ptr(), boxes.len(), areas.as_ptr(), areas.len()) }
 }
 

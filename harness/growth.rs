@@ -3,7 +3,7 @@
 //! making of the lists that hold them, and the search with its areas; on the Rust's also that the
 //! outer loop is taken out of the loops.
 
-use crate::compared::{self, Corner, Table};
+use crate::compared::{self, Table};
 use crate::original::{UvLoop, Vec2, closed_region};
 use std::hint::black_box;
 use std::time::{Duration, Instant};
@@ -60,9 +60,8 @@ fn least_times(loops: &[UvLoop], rounds: u32) -> [Duration; 2] {
 
 fn table(loops: &[UvLoop]) -> Table {
     let corners = loops.iter().flat_map(|l| &l.uv);
-    let held = |p: &Vec2| Corner { u: p.u, v: p.v, ..Corner::filled(0.0) };
     Table {
-        corners: corners.map(held).collect(),
+        corners: corners.flat_map(|p| [p.u, p.v, 0.0, 0.0, 0.0]).collect(),
         counts: loops.iter().map(|l| l.uv.len()).collect(),
         areas: loops.iter().map(|l| l.area).collect(),
     }

@@ -1,6 +1,6 @@
 //! The leaf functions on one loop against the Rust.
 
-use crate::compared::{self, Corner};
+use crate::compared;
 use crate::items::H;
 use crate::original::{
     Domain, Interval, Vec2, mean_v, nearest_branch, net_wrap, signed_area, span,
@@ -121,11 +121,7 @@ fn spans(run: &Run) {
     for _ in 0..run.times * CASES {
         let xs = reals(&mut check.random);
         let (lo, hi) = span(xs.iter().copied());
-        check.case(
-            &xs,
-            &[compared::least(&rows(&xs, &[])), compared::greatest(&rows(&xs, &[]))],
-            &[lo, hi],
-        );
+        check.case(&xs, &[compared::least(&rows(&xs, &[])), compared::greatest(&rows(&xs, &[]))], &[lo, hi]);
     }
     check.done();
 }
@@ -160,8 +156,11 @@ fn pairs(u: &[f64], v: &[f64]) -> Vec<Vec2> {
 }
 
 /// A table of these u, and v as far as there are any. What is not asked for is a NaN, which an answer
-/// that takes it in would show.
-fn rows(u: &[f64], v: &[f64]) -> Vec<Corner> {
-    let v = v.iter().copied().chain(std::iter::repeat(f64::NAN));
-    u.iter().zip(v).map(|(u, v)| Corner { u: *u, v, ..Corner::filled(f64::NAN) }).collect()
+/// that takes it in would show, and so is what at times stands behind the last row.
+fn rows(u: &[f64], v: &[f64]) -> Vec<f64> {
+    let nan = f64::NAN;
+    let v = v.iter().copied().chain(std::iter::repeat(nan));
+    let mut out: Vec<f64> = u.iter().zip(v).flat_map(|(u, v)| [*u, v, nan, nan, nan]).collect();
+    out.resize(out.len() + u.len() % 5, nan);
+    out
 }

@@ -2,7 +2,7 @@
 //! these are compared with `judge.rs`, which was written from document 01's words.
 
 use crate::calls::{call, face};
-use crate::compared::{self, Corner};
+use crate::compared;
 use crate::faces::Face;
 use crate::judge::{Answer, check, face_record, six_bytes};
 use crate::random::Random;
@@ -58,7 +58,7 @@ fn read_counts(check: &mut Check, face: &Face, record: &[u8]) {
     let counts: Vec<usize> = face.loops.iter().map(|l| l.uv.len()).collect();
     let fits = record.len() >= 5 + 2 * counts.len();
     let mut lent = vec![UNTOUCHED; room(&mut check.random, counts.len())];
-    let expected = after(fits, &counts, &lent);
+    let expected = after(fits, 1, &counts, &lent);
     let number = compared::read_counts(record, &mut lent);
     compare_lent(check, face, record, (number, lent), expected);
 }
@@ -68,19 +68,28 @@ fn read_head(check: &mut Check, face: &Face, record: &[u8]) {
     let head = [&shape.placement[..], &shape.sizes, &[shape.sag, shape.angle]].concat();
     let fits = record.len() >= 5 + 2 * face.loops.len() + 8 * 13;
     let mut lent = vec![UNTOUCHED as f64; room(&mut check.random, 13)];
-    let expected = after(fits, &head, &lent);
+    let expected = after(fits, 1, &head, &lent);
     let number = compared::read_head(record, &mut lent);
     compare_lent(check, face, record, (number, lent), expected);
 }
 
 fn read_corners(check: &mut Check, face: &Face, record: &[u8]) {
-    let corners: Vec<Corner> =
-        face.loops.iter().flat_map(|l| compared::corners(&l.uv, &l.xyz)).collect();
+    let corners: Vec<f64> = face.loops.iter().flat_map(|l| compared::rows(&l.uv, &l.xyz)).collect();
     let fits = record.len() == face_record(face).len();
-    let mut lent = vec![Corner::filled(UNTOUCHED as f64); room(&mut check.random, corners.len())];
-    let expected = after(fits, &corners, &lent);
+    let mut lent = vec![UNTOUCHED as f64; room_for_rows(&mut check.random, corners.len())];
+    let expected = after(fits, 5, &corners, &lent);
     let number = compared::read_corners(record, &mut lent);
     compare_lent(check, face, record, (number, lent), expected);
+}
+
+/// So many reals; now and then the last row lacks some or all of its reals, or up to two more rows
+/// stand behind it, the last of them cut off.
+fn room_for_rows(random: &mut Random, n: usize) -> usize {
+    match random.below(4) {
+        0 => n.saturating_sub(1 + random.below(5) as usize),
+        1 => n + 1 + random.below(10) as usize,
+        _ => n,
+    }
 }
 
 /// So many places, one less now and then, or some more.
@@ -92,39 +101,34 @@ fn room(random: &mut Random, n: usize) -> usize {
     }
 }
 
-/// How many values are read, and the list after that: as it was where they do not fit.
-fn after<T: Copy>(fits: bool, values: &[T], lent: &[T]) -> (Option<usize>, Vec<T>) {
+/// How many values of `each` places are read, and the list after that: as it was where they do not
+/// fit.
+fn after<T: Copy>(fits: bool, each: usize, values: &[T], lent: &[T]) -> (Option<usize>, Vec<T>) {
     let mut list = lent.to_vec();
     if !fits || lent.len() < values.len() {
         return (None, list);
     }
     list[..values.len()].copy_from_slice(values);
-    (Some(values.len()), list)
+    (Some(values.len() / each), list)
 }
 
-trait Read: Copy {
-    fn reals(self) -> Vec<f64>;
+trait Number: Copy {
+    fn real(self) -> f64;
 }
 
-impl Read for usize {
-    fn reals(self) -> Vec<f64> {
-        vec![self as f64]
+impl Number for usize {
+    fn real(self) -> f64 {
+        self as f64
     }
 }
 
-impl Read for f64 {
-    fn reals(self) -> Vec<f64> {
-        vec![self]
+impl Number for f64 {
+    fn real(self) -> f64 {
+        self
     }
 }
 
-impl Read for Corner {
-    fn reals(self) -> Vec<f64> {
-        compared::reals(&[self])
-    }
-}
-
-fn compare_lent<T: Read>(
+fn compare_lent<T: Number>(
     check: &mut Check,
     face: &Face,
     record: &[u8],
@@ -133,7 +137,7 @@ fn compare_lent<T: Read>(
 ) {
     let reals = |(number, list): (Option<usize>, Vec<T>)| {
         let mut out = vec![number.map_or(-1.0, |n| n as f64)];
-        out.extend(list.iter().flat_map(|x| x.reals()));
+        out.extend(list.iter().map(|x| x.real()));
         out
     };
     let given = [vec![record.len() as f64], face.reals()].concat();

@@ -27,7 +27,7 @@ fn rattle_region(face: &Face) -> Vec<f64> {
     let domain = face.shape.surface().domain();
     let periods = [domain.u_period, domain.v_period].map(|p| p.unwrap_or(0.0));
     compared::rephase_holes(&mut table, outer, periods);
-    [vec![outer as f64], table.areas, compared::reals(&table.corners)].concat()
+    [vec![outer as f64], table.areas, table.corners].concat()
 }
 
 fn rust_region(face: &Face) -> Vec<f64> {
@@ -41,12 +41,12 @@ fn rust_region(face: &Face) -> Vec<f64> {
     let number = outer.travel;
     holes.insert(number as usize, outer);
     let table = table(&holes);
-    [vec![f64::from(number)], table.areas, compared::reals(&table.corners)].concat()
+    [vec![f64::from(number)], table.areas, table.corners].concat()
 }
 
 fn table(loops: &[UvLoop]) -> Table {
     Table {
-        corners: loops.iter().flat_map(|one| compared::corners(&one.uv, &one.xyz)).collect(),
+        corners: loops.iter().flat_map(|one| compared::rows(&one.uv, &one.xyz)).collect(),
         counts: loops.iter().map(|one| one.uv.len()).collect(),
         areas: loops.iter().map(|one| one.area).collect(),
     }

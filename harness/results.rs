@@ -1,7 +1,7 @@
 //! The result record: its size, and its bytes. The Rust has no records; this is compared with
 //! `judge.rs`, which was written from document 01's words.
 
-use crate::compared::{self, Corner};
+use crate::compared;
 use crate::judge::result_record;
 use crate::original::{UvLoop, Vec2, Vec3};
 use crate::random::Random;
@@ -51,17 +51,17 @@ fn write(check: &mut Check, edge: bool, path: Path, loops: &[UvLoop], expected: 
     let random = &mut check.random;
     let counts: Vec<usize> = loops.iter().map(|l| l.uv.len()).collect();
     let mut areas: Vec<f64> = loops.iter().map(|l| l.area).collect();
-    let mut corners: Vec<Corner> =
-        loops.iter().flat_map(|one| compared::corners(&one.uv, &one.xyz)).collect();
+    let mut corners: Vec<f64> =
+        loops.iter().flat_map(|one| compared::rows(&one.uv, &one.xyz)).collect();
     let length = expected.as_ref().map_or(1000, Vec::len);
     let mut lent: Vec<u8> = (0..length + 5).map(|_| random.bits() as u8).collect();
-    // One of the lent lists is of another length: the table by one or two corners.
-    let other = random.below(4) as usize;
+    // One of the lent lists is of another length: the table by one to five reals.
+    let other = random.below(7) as usize;
     let short = random.below(3) == 0;
     match other {
         0 => lent.truncate(if short { length - 1 } else { length }),
-        1 => resize(&mut areas, 1, short, f64::MAX),
-        _ => resize(&mut corners, other - 1, short, Corner::filled(f64::MAX)),
+        1 => resize(&mut areas, 1, short),
+        _ => resize(&mut corners, other - 1, short),
     }
     let missing = short && (other < 2 || counts.iter().sum::<usize>() > 0);
     let expected = expected.filter(|_| !missing);
@@ -82,11 +82,11 @@ fn write(check: &mut Check, edge: bool, path: Path, loops: &[UvLoop], expected: 
 }
 
 /// So many shorter or longer: a list may be longer than what is taken from it.
-fn resize<T: Clone>(list: &mut Vec<T>, by: usize, short: bool, other: T) {
+fn resize(list: &mut Vec<f64>, by: usize, short: bool) {
     if short {
         list.truncate(list.len().saturating_sub(by));
     } else {
-        list.resize(list.len() + by, other);
+        list.resize(list.len() + by, f64::MAX);
     }
 }
 
