@@ -4,11 +4,27 @@ ghost use Rattle.lists.specs.Placed.{placed};
 ghost use Rattle.tables.specs.Loops.{loops_in};
 ghost use Rattle.tables.specs.Rows.{rows};
 ghost use Rattle.closed_region.specs.Loops.{box_in};
+ghost use Rattle.closed_region.specs.Outer.{box_at};
 
 use super::boxes::Bounds;
 use super::outer::{empty_box, hull};
 use tables::corners::Corner;
 use tables::loops::Loops;
+
+// Box i. Past the last one every end is a NaN.
+#[tactic(auto, using(tables::proofs::slices::Laws::nan_is))]
+pub fn box_at(boxes: &[Bounds], i: usize) -> Bounds
+    ensures { result ≡ box_at boxes.now i }
+{
+    let nan = f64::NAN;
+    let nowhere = Bounds {
+        ulo: nan,
+        uhi: nan,
+        vlo: nan,
+        vhi: nan,
+    };
+    boxes.get(i).copied().unwrap_or(nowhere)
+}
 
 // The box of a loop.
 pub fn box_of(t: &[Corner]) -> Bounds
