@@ -55,7 +55,7 @@ enum {
  *   A program linked with -ffast-math changes that mode when it starts.
  *
  * It keeps nothing between calls and asks for no memory, so several threads may call it at once, each
- * with a `result` of its own. A call takes about 187 KiB of stack on x86-64; the tests hold it under 256
+ * with a `result` of its own. A call takes about 184 KiB of stack on x86-64; the tests hold it under 256
  * (harness/stack.rs).
  */
 uint32_t closer_close_face(const uint8_t *record, size_t record_length, uint8_t *result,
