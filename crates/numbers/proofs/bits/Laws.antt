@@ -1,7 +1,7 @@
 -- Which bits are a real's: all but those above an infinity's, the sign left out.
 use Rattle.std.proofs.Common.{Some, None, ◌≡◌, ℕ, ◌*◌, ◌%◌, ◌^◌, ◌<◌, ◌≤◌, Bool, true, false, not, T, sym, refl, ◌∙◌, subst, true≢false, le-ltb, lt-ltb}
 use mathlib.Core.Bool.{false≢true}
-use lib.Ieee.{Float, nan, inf, fin, binary64, of_bits, nan_bits, is_nan}
+use lib.Ieee.{Float, nan, inf, fin, binary64, of_bits, nan_bits, is_nan, ne}
 use lib.Ieee.Bits.{nan_bits_is, nan_bits_above}
 use Rattle.numbers.specs.Bits.{value_of, real_of}
 
@@ -31,3 +31,10 @@ real_is b h = value_of_lem (of_bits binary64 b) (sym (nan_bits_is binary64 b) �
 
 pub nan_is : (b : ℕ) → infinity_bits < b % 2 ^ 63 → None ≡ real_of b
 nan_is b h = nan_of (of_bits binary64 b) (sym (nan_bits_is binary64 b) ∙ nan_bits_above binary64 b ∙ lt-ltb infinity_bits (b % 2 ^ 63) h)
+
+-- what does not differ from itself is no NaN
+no_nan : (x : Float) → ne x x ≡ false → T (not (is_nan x))
+unfolding ne is_nan
+no_nan nan e = subst T e tt
+no_nan (inf s) e = tt
+no_nan (fin s m e') e = tt

@@ -33,7 +33,7 @@ negative_cast (fin true m e) n v = refl
 negative_cast (fin false m e) n v = absurd (false≢true v.0)
 
 -- the least whole number that is at least x, where the integers reach it
-ceil_cast : (m : ℕ) (e : ℤ) → T (fits binary64 (fin false m e)) → to_unsigned 64 (ceil_of (fin false m e)) ≡ min (cut_up (m * up e) (down e)) (2 ^ 64 - 1)
+pub ceil_cast : (m : ℕ) (e : ℤ) → T (fits binary64 (fin false m e)) → to_unsigned 64 (ceil_of (fin false m e)) ≡ min (cut_up (m * up e) (down e)) (2 ^ 64 - 1)
 ceil_cast m e f =
     let n = cut_up (m * up e) (down e) in
     cut-value (ceil_of (fin false m e)) n 1 (lit< tt) (ceil_exact m e f) ∙ ap (λ (q : ℕ). min q (2 ^ 64 - 1)) (div-one n)
