@@ -1,7 +1,7 @@
 -- The passes over one slice, on plain lists and numbers.
 use Rattle.std.proofs.Common.{◌≡◌, ℕ, ◌+◌, ◌-◌, ◌≤◌, ◌<◌, true, false, leb, List, ◌++◌, length, take, drop, refl, sym, arith, append_assoc}
 use borrow.Author.Tests.{leb-true, leb-false}
-use lib.Ieee.{nan, of_bits, binary64}
+use lib.Ieee.{nan, div, of_bits, binary64}
 use lib.Seq.{drop-drop}
 use Rattle.lists.specs.Placed.{placed}
 use Rattle.lists.proofs.Placed.{placed-fits, placed_short}
@@ -10,6 +10,11 @@ use Rattle.lists.proofs.Placed.{placed-fits, placed_short}
 pub nan_is : of_bits binary64 0x7ff8_0000_0000_0000 ≡ nan
 unfolding of_bits
 nan_is = refl
+
+-- 0 / 0 is it too
+pub zero_by_zero : div binary64 (of_bits binary64 0) (of_bits binary64 0) ≡ nan
+unfolding div of_bits
+zero_by_zero = refl
 
 module _ {A : Type 0} (from : ℕ) (w d : List A) where
   pub copied : (w' : List A) → leb (from + length w) (length d) ≡ true → w' ≡ w
