@@ -1,7 +1,8 @@
 -- A number in bytes, as the code reads it.
 use mathlib.Core.Path.{◌≡◌, refl, ap, ◌∙◌}
 use mathlib.Core.List.{List, [], ◌∷◌}
-use Prim.Native.Nat.{ℕ, zero, suc, ◌+◌, ◌*◌}
+use Prim.Native.Nat.{ℕ, zero, suc, ◌+◌, ◌*◌, ◌^◌, ◌<◌}
+use native.Mathlib.Nat.{pow-succ'}
 use native.Mathlib.Omega.{arith}
 use lib.ListN.{get_or, take, drop}
 use lib.Seq.{take-nil}
@@ -9,12 +10,26 @@ use Rattle.std.proofs.lemmas.List.{take-take}
 use Rattle.std.specs.Int.{w16, w64, from_le_bytes}
 use Rattle.records.specs.Bytes.{number, number_at}
 
+number_at-none : (s : List ℕ) (p : ℕ) → number_at 0 s p ≡ 0
+unfolding number number_at
+number_at-none s p = refl
+
 pub number_at-cons : (w : ℕ) (s : List ℕ) (p : ℕ) → number_at (suc w) s p ≡ get_or s p 0 + 256 * number_at w s (suc p)
 unfolding number number_at
 number_at-cons w [] zero = rw (take-nil {A = ℕ} w)
 number_at-cons w [] (suc p) = rw (take-nil {A = ℕ} w)
 number_at-cons w (b ∷ s) zero = refl
 number_at-cons w (b ∷ s) (suc p) = number_at-cons w s p
+
+-- of w bytes, each below 256
+pub number_at-low : (w : ℕ) (s : List ℕ) (p : ℕ) → ((i : ℕ) → i < w → get_or s (p + i) 0 < 256) → number_at w s p < 256 ^ w
+number_at-low zero s p f = let e = number_at-none s p in omega arith
+number_at-low (suc w) s p f =
+    let c = number_at-cons w s p in
+    let b : get_or s p 0 < 256 = (let q : p + 0 ≡ p = omega arith in rw q at (f 0 (omega arith))) in
+    let l = number_at-low w s (suc p) (λ i h. let q : p + suc i ≡ suc p + i = omega arith in rw q at (f (suc i) (omega arith))) in
+    let e : 256 ^ suc w ≡ 256 * 256 ^ w = pow-succ' 256 w in
+    omega arith
 
 -- what `from_le_bytes` gives of the first bytes of b
 
