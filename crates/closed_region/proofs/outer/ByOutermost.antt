@@ -9,7 +9,7 @@ use mathlib.Core.List.{List}
 use lib.Dec.{T, eqb, eqb→eq, eqb_refl}
 use lib.ListN.{length}
 use Rattle.std.specs.Prelude.{Option, Some}
-use borrow.Author.Tests.{eqb-true, eqb-false, ne_eqb}
+use borrow.Author.Tests.{eqb-true, eqb-false, eq-eqb, ne_eqb}
 use lib.Ieee.{Float, le}
 use lib.Ieee.Fits.{and_i, and_l, and_r}
 use Rattle.numbers.proofs.Monotone.{Zero}
@@ -248,7 +248,11 @@ by_outermost_lem boxes fit = go (eqb (length boxes) 1) refl
     go true e = alone_found (slack_of boxes) boxes (eqb-true (length boxes) 1 e)
     go false e = several_found boxes fit (eqb-false (length boxes) 1 e)
 
--- ---- the code's answer for two boxes or more
+-- ---- the answer for one box, and the code's for two or more
+pub one_answer : (boxes : List Bounds) → length boxes ≡ 1 → Some 0 ≡ by_outermost boxes
+unfolding by_outermost
+one_answer boxes e = rw (eq-eqb (length boxes) 1 e)
+
 pub other_answer : (boxes : List Bounds) → (length boxes ≡ 1 → ⊥) → (slack : Float) → slack ≡ slack_of boxes → (outermost : Outermost) → outermost ≡ outermost_of slack boxes
     → (x : Option ℕ) → x ≡ the_one_against slack outermost boxes → x ≡ by_outermost boxes
 unfolding by_outermost
