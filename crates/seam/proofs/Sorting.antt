@@ -28,6 +28,25 @@ insert-none s = refl
 below-first : (x : Float) (t : Span) (ts : List Span) (b : Bool) → lt t.low x ≡ b → below x (t ∷ ts) ≡ cond b (t ∷ below x ts) []
 below-first x t ts b e = take_while-cons (λ (s : Span). lt s.low x) t ts ∙ ap (λ (c : Bool). cond c (t ∷ below x ts) []) e
 
+below-most : (x : Float) (ss : List Span) → length (below x ss) ≤ length ss
+below-most x [] = omega arith
+below-most x (t ∷ ts) = by_test (lt t.low x) refl (below-most x ts)
+  where
+    by_test : (b : Bool) → lt t.low x ≡ b → length (below x ts) ≤ length ts → length (below x (t ∷ ts)) ≤ suc (length ts)
+    by_test true e m = let l = ap length (below-first x t ts true e) in omega arith
+    by_test false e m = let l = ap length (below-first x t ts false e) in omega arith
+
+-- how many of those behind i begin below it: counted in the part of the slice that the code passes, and they end within the slice
+pub after_is : (spans : List Span) (i r : ℕ) → i < length spans
+    → r ≡ length (below (get_or spans i (span nan nan)).low (take (length spans - (i + 1)) (drop (i + 1) spans)))
+    → (r ≡ length (below (get_or spans i (span nan nan)).low (drop (i + 1) spans))) × (i + 1 + r ≤ length spans)
+after_is spans i r h e =
+    (is, let m = below-most (get_or spans i (span nan nan)).low (drop (i + 1) spans) in let b = is in let l = length-drop (i + 1) spans in omega arith)
+  where
+    is : r ≡ length (below (get_or spans i (span nan nan)).low (drop (i + 1) spans))
+    is =
+        e ∙ ap (λ (l : List Span). length (below (get_or spans i (span nan nan)).low l)) (take_all (length spans - (i + 1)) (drop (i + 1) spans) (let l = length-drop (i + 1) spans in omega arith))
+
 -- put behind those that begin below it
 insert-at : (s : Span) (ts : List Span) (k : ℕ) → k ≡ length (below s.low ts) → insert s ts ≡ take k ts ++ (s ∷ drop k ts)
 insert-at s [] k e = insert-none s ∙ rw e
