@@ -1,12 +1,15 @@
 -- A part moved to the front.
-use Prim.Native.Nat.{ℕ, ◌+◌, ◌-◌, ◌≤◌, ◌<◌, min}
-use mathlib.Core.Path.{◌≡◌, sym, ap, ◌∙◌}
-use mathlib.Core.List.{List, ◌++◌, append_assoc}
+use Prim.Native.Nat.{ℕ, zero, suc, ◌+◌, ◌-◌, ◌≤◌, ◌<◌, min}
+use mathlib.Core.Path.{◌≡◌, refl, sym, ap, ◌∙◌}
+use mathlib.Core.Bool.{Bool, true, false, cond}
+use mathlib.Core.List.{List, [], ◌∷◌, ◌++◌, append_assoc}
 use native.Mathlib.Decide.{dec_le}
 use native.Mathlib.Nat.{zero-add}
 use native.Mathlib.Omega.{arith}
-use lib.ListN.{length, take, drop, length-append, length-take, length-drop, drop_of_length-le}
-use lib.Seq.{take_all}
+use lib.Dec.{leb}
+use lib.ListN.{length, get_or, take, drop, length-append, length-take, length-drop, drop_of_length-le, get_or-append}
+use lib.Seq.{take_all, drop-cons, get_or-append-add, get_or-take, get_or-drop, length-take-le}
+use borrow.Author.Tests.{leb-true, leb-false}
 use Rattle.lists.specs.Placed.{placed}
 use Rattle.lists.proofs.Placed.{placed_short, placed_after}
 use Rattle.lists.specs.Parts.{part_of}
@@ -59,3 +62,37 @@ module _ {A : Type 0} (start count : ℕ) (src : List A) where
       where
         before_is : before ≡ take start src
         before_is = unfold part_of in q
+
+-- ---- one element first
+
+-- which place of the list stands at j when the element at `first` comes first
+abbrev place_at : ℕ → ℕ → ℕ
+place_at first zero = first
+place_at first (suc j) = cond (leb (suc j) first) j (suc j)
+
+module _ {A : Type 0} (first : ℕ) (xs : List A) (z : A) (within : first < length xs) where
+  one : part_of first 1 xs ≡ get_or xs first z ∷ []
+  unfolding part_of
+  one = ap (take 1) (drop-cons xs first z within)
+
+  moved_at : (j : ℕ) → j < length xs → get_or (get_or xs first z ∷ (take first xs ++ drop (first + 1) xs)) j z ≡ get_or xs (place_at first j) z
+  moved_at zero h = refl
+  moved_at (suc j) h = by_place (leb (suc j) first) refl
+    where
+      by_place : (t : Bool) → leb (suc j) first ≡ t → get_or (take first xs ++ drop (first + 1) xs) j z ≡ get_or xs (cond t j (suc j)) z
+      by_place true e =
+          let low : suc j ≤ first = leb-true (suc j) first e in
+          let long = length-take-le first xs (omega arith) in
+          get_or-append (take first xs) (drop (first + 1) xs) z j (omega arith) ∙ get_or-take first xs j z (omega arith)
+      by_place false e =
+          let high : first < suc j = leb-false (suc j) first e in
+          let long = length-take-le first xs (omega arith) in
+          let place : j ≡ length (take first xs) + (j - first) = omega arith in
+          let back : first + 1 + (j - first) ≡ suc j = omega arith in
+          ap (λ (k : ℕ). get_or (take first xs ++ drop (first + 1) xs) k z) place ∙ get_or-append-add (take first xs) (drop (first + 1) xs) (j - first) z
+          ∙ get_or-drop (first + 1) xs (j - first) z ∙ ap (λ (k : ℕ). get_or xs k z) back
+
+  -- at j stands what stood at its place
+  get_or-first : (j : ℕ) → j < length xs → get_or (part_first first 1 xs) j z ≡ get_or xs (place_at first j) z
+  unfolding part_first
+  get_or-first j h = ap (λ (l : List A). get_or (l ++ (take first xs ++ drop (first + 1) xs)) j z) one ∙ moved_at j h
