@@ -1,5 +1,5 @@
 -- Both rings begun where the search finds it.
-use Rattle.std.proofs.Common.{◌≡◌, ℕ, ◌+◌, ◌≤◌, ◌<◌, Bool, cond, List, length, take, sym, ap, ◌∙◌, arith}
+use Rattle.std.proofs.Common.{◌≡◌, ℕ, ◌+◌, ◌≤◌, ◌<◌, min, Bool, cond, List, length, take, sym, ap, ◌∙◌, arith}
 use borrow.Author.Tests.{lt-ltb, le-ltb}
 use lib.Ieee.{Float}
 use lib.Seq.{length-take-le}
@@ -79,7 +79,14 @@ module _ (period : Float) (room : ℕ) (first later : List Held) where
     later_after = later-started h r r_is first₁ later₁ cut ef ec el;
   }
 
--- the room that the code finds
+-- ---- with the room that the code finds
+
+-- the least of the lengths, taken by twos, is at most each
+module _ (u v x y z : List Float) (p q o room : ℕ) (p_is : p ≡ min (length u) (length v)) (o_is : o ≡ min (length y) (length z)) (q_is : q ≡ min (length x) o)
+    (room_is : room ≡ min p q) where
+  pub room_each : (room ≤ length u) × ((room ≤ length v) × ((room ≤ length x) × ((room ≤ length y) × (room ≤ length z))))
+  room_each = (omega arith, (omega arith, (omega arith, (omega arith, omega arith))))
+
 pub searched_in_room : (period : Float) (first later : Corners Vec3) (u v x y z : List Float) (room : ℕ) (r : Search) → room ≡ room_in u v x y z
     → r ≡ search_within period (length (take room u)) first later → r ≡ search_within period (room_in u v x y z) first later
 searched_in_room period first later u v x y z room r e r_is =
