@@ -91,7 +91,7 @@ pub sum_of_rows : (ls : List (Corners Vec3)) → sum_by length ls ≡ length (fl
 unfolding flatten
 sum_of_rows ls = sym (is_sum_by (λ ls. length (flatten ls)) length refl (λ l ls. length-append l (flatten ls)) ls)
 
-module _ (loops : Loops) (k : ℕ) where
+module _ (loops : Loops Held) (k : ℕ) where
   pub front_rows : length (flatten (take k (loops_in loops))) ≤ length loops.corners.now
   front_rows =
       let ls = loops_in loops in

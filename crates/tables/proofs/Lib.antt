@@ -5,3 +5,4 @@ pub mod Unless
 pub mod Steps
 pub mod CornersFrom
 pub mod LoopLaws
+pub mod AnyRows

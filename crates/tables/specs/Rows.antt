@@ -1,5 +1,5 @@
 -- A table is a list of the corners that the code holds; its rows are those corners, each with the position that it carries.
-use Rattle.std.specs.Prelude.{List, map, Float}
+use Rattle.std.specs.Prelude.{List, map, get_or, Float}
 use Rattle.std.specs.Float.{nan}
 use Rattle.numbers.specs.declared.math.Vec3.{Vec3}
 use Rattle.tables.specs.Corners.{Corner, Corners}
@@ -15,6 +15,10 @@ held_u f c = record { u = f c.u; v = c.v; at = c.at }
 
 unfoldable pub rows : List Held → Corners Vec3
 rows t = map corner_of t
+
+-- a row of five reals
+abbrev pub five_reals : List Float → Corner Vec3
+five_reals r = record { u = get_or r 0 nan; v = get_or r 1 nan; at = record { x = get_or r 2 nan; y = get_or r 3 nan; z = get_or r 4 nan } }
 
 -- what is read past the last row
 abbrev pub none : Corner Vec3

@@ -9,3 +9,4 @@ pub mod loops;
 pub mod moves;
 pub mod ring_point;
 pub mod slices;
+pub mod table_row;

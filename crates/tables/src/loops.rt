@@ -2,15 +2,16 @@
 ghost use Rattle.std.specs.Prelude.{◌≡◌, [], get_or};
 ghost use Rattle.std.specs.Iterator.{YieldsFirstBy, item_count};
 ghost use Rattle.tables.specs.Rows.{rows};
-ghost use Rattle.tables.specs.Loops.{loops_in};
+ghost use Rattle.tables.specs.Loops.{loops_by, loops_in};
 
 use super::corners::Corner;
+use super::table_row::TableRow;
 
 // A count for each loop; where they run past the end of the table, a loop is what is left. As an
 // iterator it gives its loops, one after the other.
 #[derive(Clone, Copy)]
-pub struct Loops<'a> {
-    pub corners: &'a [Corner],
+pub struct Loops<'a, R: TableRow = Corner> {
+    pub corners: &'a [R],
     pub counts: &'a [usize],
 }
 
@@ -26,14 +27,14 @@ pub fn loop_of<'a>(loops: Loops<'a>, k: usize) -> &'a [Corner]
     &[]
 }
 
-impl<'a> Iterator for Loops<'a> {
-    type Item = &'a [Corner];
+impl<'a, R: TableRow> Iterator for Loops<'a, R> {
+    type Item = &'a [R];
 
-    ghost next_gives = { YieldsFirstBy (λ one. rows one.now) loops_in };
+    ghost next_gives = { YieldsFirstBy (λ one. R.rows_of one.now) (loops_by R.rows_of) };
 
-    ghost remaining = { item_count loops_in };
+    ghost remaining = { item_count (loops_by R.rows_of) };
 
-    fn next(&mut self) -> Option<&'a [Corner]> {
+    fn next(&mut self) -> Option<&'a [R]> {
         let (count, counts) = self.counts.split_first()?;
         let (one, corners) = self.corners.split_at((*count).min(self.corners.len()));
         self.corners = corners;
