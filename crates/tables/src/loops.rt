@@ -15,10 +15,13 @@ pub struct Loops<'a, R: TableRow = Corner> {
     pub counts: &'a [usize],
 }
 
-// Loop k; past the last one, nothing.
+// Loop k; past the last one, nothing, and without a walk over the loops.
 pub fn loop_of<'a>(loops: Loops<'a>, k: usize) -> &'a [Corner]
     ensures { rows result.now ≡ get_or (loops_in loops.entry) k [] }
 {
+    if loops.counts.len() <= k {
+        return &[];
+    }
     for (i, one) in loops.enumerate() {
         if i == k {
             return one;
