@@ -8,25 +8,26 @@ ghost use Rattle.rings.specs.Choices.{least_u, greatest_u, strip_shift, straddle
 
 use numbers::order::{max, min};
 use tables::corners::Corner;
+use tables::table_row::TableRow;
 
 // Least and greatest are two functions: one over the operation would be told by a closure, whose contract
 // is a relation and no function.
-pub fn least(t: &[Corner]) -> f64
-    ensures { result ≡ least_of (us (rows t.now)) }
+pub fn least<R: TableRow>(t: &[R]) -> f64
+    ensures { result ≡ least_of (us (R.rows_of t.now)) }
 {
     let mut lo = f64::INFINITY;
     for c in t {
-        lo = min(lo, c.u);
+        lo = min(lo, c.corner().u);
     }
     lo
 }
 
-pub fn greatest(t: &[Corner]) -> f64
-    ensures { result ≡ greatest_of (us (rows t.now)) }
+pub fn greatest<R: TableRow>(t: &[R]) -> f64
+    ensures { result ≡ greatest_of (us (R.rows_of t.now)) }
 {
     let mut hi = f64::NEG_INFINITY;
     for c in t {
-        hi = max(hi, c.u);
+        hi = max(hi, c.corner().u);
     }
     hi
 }

@@ -2,19 +2,18 @@
 ghost use Rattle.std.specs.Prelude.{◌≡◌};
 ghost use Rattle.loops.specs.Mean.{sum_of, mean_of};
 ghost use Rattle.tables.specs.Corners.{vs};
-ghost use Rattle.tables.specs.Rows.{rows};
 
-use tables::corners::Corner;
+use tables::table_row::TableRow;
 
 // From -0.0 and in order, as the Rust sums.
-fn sum_v(t: &[Corner]) -> f64
-    ensures { result ≡ sum_of (vs (rows t.now)) }
+fn sum_v<R: TableRow>(t: &[R]) -> f64
+    ensures { result ≡ sum_of (vs (R.rows_of t.now)) }
 {
-    t.iter().fold(-0.0, |s, c| s + c.v)
+    t.iter().fold(-0.0, |s, c| s + c.corner().v)
 }
 
-pub fn mean_v(t: &[Corner]) -> f64
-    ensures { result ≡ mean_of (vs (rows t.now)) }
+pub fn mean_v<R: TableRow>(t: &[R]) -> f64
+    ensures { result ≡ mean_of (vs (R.rows_of t.now)) }
 {
     if t.is_empty() {
         return 0.0;

@@ -1,46 +1,52 @@
--- The u and the v of a table's rows, read where the corners stand.
-use Rattle.std.proofs.Common.{◌≡◌, ℕ, ◌+◌, ◌-◌, ◌%◌, ◌≤◌, ◌<◌, min, List, length, get_or, arith, pos}
-use Rattle.std.proofs.lemmas.List.{length-map}
+-- The u and the v of a table's rows, read where the rows stand.
+use Rattle.std.proofs.Common.{◌≡◌, ℕ, ◌+◌, ◌-◌, ◌%◌, ◌≤◌, ◌<◌, min, List, length, get_or, map, arith, pos}
 use Rattle.std.specs.Prelude.{Float}
 use Rattle.numbers.specs.Rounded.{◌⊕◌, ◌⊖◌, ◌⊗◌, ◌⊘◌}
 use Rattle.numbers.specs.declared.math.Vec3.{Vec3}
-use Rattle.tables.specs.Corners.{Corner, us, vs}
-use Rattle.tables.specs.Rows.{rows}
-use Rattle.tables.specs.declared.corners.Corner.{Corner as Held}
-use Rattle.tables.proofs.Rows.{absent, length-rows, length-us, u-at-place, v-at-place}
+use Rattle.tables.specs.Corners.{Corner, Corners, us, vs}
+use Rattle.tables.proofs.AnyRows.{us_counted, vs_counted, u_there, v_there}
 use Rattle.loops.specs.Area.{cross_at, cross_sum}
 use Rattle.loops.specs.Wrap.{turns_counted, wrap_every}
 use Rattle.loops.proofs.rows.Area.{Summing, summing, summing_turn}
 use Rattle.loops.proofs.wrap.Laws.{net_of_few, net_of_more}
 
-module _ (t : List Held) where
-  pub count_both : length t ≡ min (length (us (rows t))) (length (vs (rows t)))
-  count_both = let u = length-us t in let v : length (vs (rows t)) ≡ length (rows t) = length-map (rows t) (λ (c : Corner Vec3). c.v) in let r = length-rows t in omega arith
+module _ {A : Type 0} (rows_of : List A → Corners Vec3) (t : List A) where
+  abbrev pub Adding : Float → ℕ → Type 0
+  Adding s i = Summing (us (rows_of t)) (vs (rows_of t)) (length t) s i
+
+module _ {A : Type 0} (row_of : A → Corner Vec3) (rows_of : List A → Corners Vec3) (are : (t : List A) → rows_of t ≡ map row_of t) (t : List A) where
+  pub count_both : length t ≡ min (length (us (rows_of t))) (length (vs (rows_of t)))
+  count_both = omega (arith, us_counted row_of rows_of are t, vs_counted row_of rows_of are t)
 
   -- ---- the area
 
-  abbrev pub Adding : Float → ℕ → Type 0
-  Adding s i = Summing (us (rows t)) (vs (rows t)) (length t) s i
+  pub adding : Adding rows_of t (cross_sum (us (rows_of t)) (vs (rows_of t)) (length t) 0) 0
+  adding = summing (us (rows_of t)) (vs (rows_of t)) (length t) count_both
 
-  pub adding : Adding (cross_sum (us (rows t)) (vs (rows t)) (length t) 0) 0
-  adding = summing (us (rows t)) (vs (rows t)) (length t) count_both
-
-  pub adding_turn : (i j : ℕ) (s : Float) → Adding s i → i < length t → j ≡ (i + 1) % length t
-      → Adding (s ⊕ ((get_or t i absent).u ⊗ (get_or t j absent).v ⊖ (get_or t j absent).u ⊗ (get_or t i absent).v)) (i + 1)
+  -- of rows i and j, which are read as c and d
+  pub adding_turn : (i j : ℕ) (x y : A) (c d : Corner Vec3) (s : Float) → Adding rows_of t s i → i < length t → j ≡ (i + 1) % length t
+      → x ≡ get_or t i x → c ≡ row_of x → y ≡ get_or t j y → d ≡ row_of y
+      → Adding rows_of t (s ⊕ (c.u ⊗ d.v ⊖ d.u ⊗ c.v)) (i + 1)
   unfolding cross_at
-  adding_turn i j s k h e =
-      let b : j < length t = omega arith in
-      rw (← u-at-place t i h, ← v-at-place t j b, ← u-at-place t j b, ← v-at-place t i h) (summing_turn (us (rows t)) (vs (rows t)) (length t) i j s k h e)
+  adding_turn i j x y c d s k h e x-is c-is y-is d-is =
+      let m : j < length t = omega arith in
+      let u = u_there row_of rows_of are t in
+      let v = v_there row_of rows_of are t in
+      let added = summing_turn (us (rows_of t)) (vs (rows_of t)) (length t) i j s k h e in
+      rw (← u i x c h x-is c-is, ← v j y d m y-is d-is, ← u j y d m y-is d-is, ← v i x c h x-is c-is) added
 
   -- ---- the wrap
 
   module _ (period : Float) where
-    pub net-few : length t < 2 → pos 0 ≡ wrap_every period (us (rows t))
-    net-few h = net_of_few (us (rows t)) period (omega (arith, length-us t))
+    pub net-few : length t < 2 → pos 0 ≡ wrap_every period (us (rows_of t))
+    net-few h = net_of_few (us (rows_of t)) period (omega (arith, us_counted row_of rows_of are t))
 
-    pub net_more : 2 ≤ length t → turns_counted (((get_or t (length t - 1) absent).u ⊖ (get_or t 0 absent).u) ⊘ period) ≡ wrap_every period (us (rows t))
-    net_more h =
-        let m : length t - 1 ≡ length (us (rows t)) - 1 = omega (arith, length-us t) in
-        let l : length t - 1 < length t = omega arith in
-        let f : 0 < length t = omega arith in
-        rw (← u-at-place t (length t - 1) l, ← u-at-place t 0 f, m) (net_of_more (us (rows t)) period (omega (arith, length-us t)))
+    -- of the last row and the first, which are read as c and d
+    pub net_more : (x y : A) (c d : Corner Vec3) → 2 ≤ length t → x ≡ get_or t (length t - 1) x → c ≡ row_of x → y ≡ get_or t 0 y → d ≡ row_of y
+        → turns_counted ((c.u ⊖ d.u) ⊘ period) ≡ wrap_every period (us (rows_of t))
+    net_more x y c d h x-is c-is y-is d-is =
+        let n = us_counted row_of rows_of are t in
+        let m : length t - 1 ≡ length (us (rows_of t)) - 1 = omega arith in
+        let u = u_there row_of rows_of are t in
+        let net = net_of_more (us (rows_of t)) period (omega arith) in
+        rw (← u (length t - 1) x c (omega arith) x-is c-is, ← u 0 y d (omega arith) y-is d-is, m) net

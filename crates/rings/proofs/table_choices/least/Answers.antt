@@ -3,17 +3,21 @@ use lib.Ieee.{nan, div, neg, of_bits}
 use Rattle.numbers.specs.Order.{min_of}
 use Rattle.loops.specs.Span.{least_of}
 use Rattle.lists.proofs.Folds.{folding, folding_turn, folding_end}
-use Rattle.tables.proofs.Rows.{length-us, u-at-place}
+use Rattle.tables.proofs.AnyRows.{us_counted, u_there}
 use Rattle.rings.proofs.table_choices.least.Goals as goal
 
 pub loop-c-init : goal.loop-c-init
 unfolding div neg of_bits
-loop-c-init c = folding _ _ _
+loop-c-init g c = folding _ _ _
 
 pub loop-c-preserved : goal.loop-c-preserved
-loop-c-preserved c = folding_turn _ _ _ nan _ _ _ c.loop-c.invariant (omega (arith, length-us c.args.t.now))
-    (c.min-lo.ensures ∙ ap (min_of c.loop-c.lo) (sym (u-at-place _ _ c.loop-c-test.true)))
+loop-c-preserved g c =
+    let many = us_counted _ _ g.met.R.TableRow.rows_are c.args.t.now in
+    let u = u_there _ _ g.met.R.TableRow.rows_are _ _ _ _ c.loop-c-test.true c.c-item.is c.corner.ensures in
+    folding_turn _ _ _ nan _ _ _ c.loop-c.invariant (omega arith) (c.min-lo.ensures ∙ ap (min_of c.loop-c.lo) (sym u))
 
 pub returns : goal.returns
 unfolding least_of
-returns c = folding_end _ _ _ _ _ c.loop-c.invariant (omega (arith, length-us c.args.t.now))
+returns g c =
+    let many = us_counted _ _ g.met.R.TableRow.rows_are c.args.t.now in
+    folding_end _ _ _ _ _ c.loop-c.invariant (omega arith)
