@@ -1,3 +1,4 @@
 pub mod BoxTable
 pub mod OuterAmong
 pub mod MovedHoles
+pub mod AnyBoxes

@@ -6,3 +6,4 @@ pub mod Region
 pub mod Rephase
 pub mod Holes
 pub mod Values
+pub mod BoxRows

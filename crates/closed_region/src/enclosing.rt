@@ -3,32 +3,33 @@ ghost use Rattle.std.specs.Prelude.{◌≡◌, ℕ};
 ghost use Rattle.closed_region.specs.Outer.{box_at, slack_of, enclosing_one, outer_of};
 ghost use Rattle.closed_region.specs.ByOutermost.{Fits, outermost_of, the_one_against};
 
-use super::boxes::Bounds;
+use super::box_row::BoxRow;
 use super::outer::{
     Outermost, empty_box, encloses_outermost, encloses_within, hull, last_largest, longer_side,
 };
 use numbers::order::max;
 
 // 10^-9 of the largest side.
-fn slack_of(boxes: &[Bounds]) -> f64
-    ensures value { result ≡ slack_of boxes.now }
-    ensures fit { (i : ℕ) → Fits (box_at boxes.now i) }
+fn slack_of<B: BoxRow>(boxes: &[B]) -> f64
+    ensures value { result ≡ slack_of (B.boxes_of boxes.now) }
+    ensures fit { (i : ℕ) → Fits (box_at (B.boxes_of boxes.now) i) }
 {
     let mut largest = 0.0;
-    for &b in boxes {
-        largest = max(largest, longer_side(b));
+    for row in boxes {
+        largest = max(largest, longer_side(row.bounds()));
     }
     largest * 1e-9
 }
 
 // The outermost ends of the boxes that some box can enclose, and the number of those that none can. One
 // pass gives both: with a filter for each the boxes would be asked twice, and it would be no plainer.
-fn outermost_of(boxes: &[Bounds], slack: f64) -> Outermost
-    ensures { result ≡ outermost_of slack boxes.now }
+fn outermost_of<B: BoxRow>(boxes: &[B], slack: f64) -> Outermost
+    ensures { result ≡ outermost_of slack (B.boxes_of boxes.now) }
 {
     let mut ends = empty_box();
     let mut unenclosable = 0;
-    for &b in boxes {
+    for row in boxes {
+        let b = row.bounds();
         if encloses_within(slack, b, b) {
             ends = hull(ends, b);
         } else {
@@ -39,12 +40,12 @@ fn outermost_of(boxes: &[Bounds], slack: f64) -> Outermost
 }
 
 // The one box of which `encloses_outermost` is true, if there is one and no more.
-fn the_one_against(boxes: &[Bounds], slack: f64, outermost: Outermost) -> Option<usize>
-    ensures { result ≡ the_one_against slack outermost boxes.now }
+fn the_one_against<B: BoxRow>(boxes: &[B], slack: f64, outermost: Outermost) -> Option<usize>
+    ensures { result ≡ the_one_against slack outermost (B.boxes_of boxes.now) }
 {
     let mut found = None;
-    for (i, &b) in boxes.iter().enumerate() {
-        if encloses_outermost(slack, outermost, b) {
+    for (i, row) in boxes.iter().enumerate() {
+        if encloses_outermost(slack, outermost, row.bounds()) {
             if found.is_some() {
                 return None;
             }
@@ -56,8 +57,8 @@ fn the_one_against(boxes: &[Bounds], slack: f64, outermost: Outermost) -> Option
 
 // The one box that encloses all others, if there is one and no more. A box alone has no other to
 // enclose, so it is not tested: with a NaN among its ends it would fail.
-fn enclosing_one(boxes: &[Bounds]) -> Option<usize>
-    ensures { result ≡ enclosing_one (slack_of boxes.now) boxes.now }
+fn enclosing_one<B: BoxRow>(boxes: &[B]) -> Option<usize>
+    ensures { result ≡ enclosing_one (slack_of (B.boxes_of boxes.now)) (B.boxes_of boxes.now) }
 {
     if boxes.len() == 1 {
         return Some(0);
@@ -67,8 +68,8 @@ fn enclosing_one(boxes: &[Bounds]) -> Option<usize>
 }
 
 // The loops' boxes and their areas.
-pub fn outer_loop(boxes: &[Bounds], areas: &[f64]) -> usize
-    ensures { result ≡ outer_of boxes.now areas.now }
+pub fn outer_loop<B: BoxRow>(boxes: &[B], areas: &[f64]) -> usize
+    ensures { result ≡ outer_of (B.boxes_of boxes.now) areas.now }
 {
     enclosing_one(boxes).unwrap_or(last_largest(areas))
 }

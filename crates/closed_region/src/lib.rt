@@ -2,6 +2,7 @@
 // its branch. Slices of any length.
 #![tactic(auto)]
 
+pub mod box_row;
 pub mod box_table;
 pub mod boxes;
 pub mod enclosing;

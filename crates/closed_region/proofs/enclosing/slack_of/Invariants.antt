@@ -1,5 +1,5 @@
 use Rattle.closed_region.proofs.outer.Laws as laws
 use Rattle.closed_region.proofs.enclosing.slack_of.Given as goal
 
-abbrev pub invariant-loop-b : goal.invariant-loop-b
-invariant-loop-b l = laws.Sides l.boxes l.largest l.b-index
+abbrev pub invariant-loop-row : goal.invariant-loop-row
+invariant-loop-row g l = laws.Sides (g.B.BoxRow.boxes_of l.boxes) l.largest l.row-index
