@@ -26,26 +26,29 @@ module _ (boxes : List Bounds) where
   abbrev larger : Float → Bounds → Float
   larger largest b = max_of largest (side_of b)
 
-  pub record Sides (largest : Float) (i : ℕ) : Type 0 where
-    pub fold : Folding larger plus_zero boxes largest i
-    pub fit : (j : ℕ) → j < i → Fits (box_at boxes j)
+  abbrev pub Sides : Float → ℕ → Type 0
+  Sides largest i = Folding larger plus_zero boxes largest i
 
-  pub sides_turn : (largest x y : Float) (i : ℕ) → Sides largest i → i < length boxes → x ≡ side_of (box_at boxes i) → Fits (box_at boxes i) → y ≡ max_of largest x → Sides y (i + 1)
-  sides_turn largest x y i k h e f q = record {
-    fold = folding_turn larger plus_zero boxes nowhere largest y i k.fold h (q ∙ ap (max_of largest) e);
-    fit = below_more _ _ k.fit f;
-  }
+  pub sides_turn : (largest x y : Float) (i : ℕ) → Sides largest i → i < length boxes → x ≡ side_of (box_at boxes i) → y ≡ max_of largest x → Sides y (i + 1)
+  sides_turn largest x y i k h e q = folding_turn larger plus_zero boxes nowhere largest y i k h (q ∙ ap (max_of largest) e)
 
   pub sides-end : (largest : Float) (i : ℕ) → Sides largest i → length boxes ≤ i → largest ⊗ 10^-9 ≡ slack_of boxes
   unfolding slack_of
-  sides-end largest i k h = ap (λ (x : Float). x ⊗ 10^-9) (folding_end larger plus_zero boxes largest i k.fold h)
+  sides-end largest i k h = ap (λ (x : Float). x ⊗ 10^-9) (folding_end larger plus_zero boxes largest i k h)
+
+  -- ---- the first i boxes are of 64 bits
+  abbrev pub FitBefore : ℕ → Type 0
+  FitBefore i = (j : ℕ) → j < i → Fits (box_at boxes j)
+
+  pub fit_turn : (i : ℕ) → FitBefore i → Fits (box_at boxes i) → FitBefore (i + 1)
+  fit_turn i k f = below_more _ _ k f
 
   -- the ends of all boxes, and those that are read past the last one
-  pub all_fit : (largest : Float) (i : ℕ) → Sides largest i → length boxes ≤ i → (j : ℕ) → Fits (box_at boxes j)
-  all_fit largest i k h j = go (dec_le (suc j) i)
+  pub all_fit : (i : ℕ) → FitBefore i → length boxes ≤ i → (j : ℕ) → Fits (box_at boxes j)
+  all_fit i k h j = go (dec_le (suc j) i)
     where
       go : Dec (j < i) → Fits (box_at boxes j)
-      go (yes l) = k.fit j l
+      go (yes l) = k j l
       go (no l) = let past : length boxes ≤ j = omega arith in rw (get_or-eq_default boxes nowhere past) (unfold fits in record { ulo = tt; uhi = tt; vlo = tt; vhi = tt })
 
 -- ---- the outermost ends, and how many boxes are not enclosable

@@ -9,13 +9,15 @@ loop-row-preserved g c =
     let are = g.met.B.BoxRow.boxes_are in
     let many = boxes_counted _ _ are c.args.boxes.now in
     let there = box_there _ _ are _ _ _ _ c.loop-row-test.true c.row-item.is c.bounds.ensures in
-    let side = c.longer_side.ensures in
-    laws.sides_turn _ _ _ _ _ c.loop-row.invariant (omega arith) (side.value ∙ ap side_of (sym there)) (rw there side.fit) c.max-largest.ensures
+    let side = c.longer_side.ensures in (
+      laws.sides_turn _ _ _ _ _ c.loop-row.invariant.0 (omega arith) (side.value ∙ ap side_of (sym there)) c.max-largest.ensures,
+      laws.fit_turn _ _ c.loop-row.invariant.1 (rw there side.fit),
+    )
 
 pub returns : goal.returns
 returns g c =
     let many = boxes_counted _ _ g.met.B.BoxRow.boxes_are c.args.boxes.now in
     record {
-      value = laws.sides-end _ _ _ c.loop-row.invariant (omega arith);
-      fit = laws.all_fit _ _ _ c.loop-row.invariant (omega arith);
+      value = laws.sides-end _ _ _ c.loop-row.invariant.0 (omega arith);
+      fit = laws.all_fit _ _ c.loop-row.invariant.1 (omega arith);
     }
