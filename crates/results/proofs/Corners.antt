@@ -1,4 +1,4 @@
--- The corners of a table as bytes.
+-- Corners as bytes.
 use mathlib.Core.Path.{◌≡◌, refl, ap}
 use mathlib.Core.List.{List, [], ◌∷◌, ◌++◌, map, append-nil}
 use Prim.Native.Nat.{ℕ}
@@ -6,21 +6,20 @@ use lib.ListN.{length}
 use lib.Ieee.{Float}
 use Rattle.records.specs.Bytes.{real, uv, xyz, row}
 use Rattle.records.proofs.RoundTrip.{codes_uv, codes_xyz}
-use Rattle.tables.specs.Corners.{uv_of, positions}
-use Rattle.tables.specs.Rows.{rows, corner_of}
-use Rattle.tables.specs.declared.corners.Corner.{Corner}
+use Rattle.numbers.specs.declared.math.Vec3.{Vec3}
+use Rattle.tables.specs.Corners.{Corner, Corners, uv_of, positions}
 
 -- its parameters, and its position
-abbrev pub uv_bytes : Corner → List ℕ
-uv_bytes c = uv (uv_of (corner_of c))
+abbrev pub uv_bytes : Corner Vec3 → List ℕ
+uv_bytes c = uv (uv_of c)
 
-abbrev pub xyz_bytes : Corner → List ℕ
+abbrev pub xyz_bytes : Corner Vec3 → List ℕ
 xyz_bytes c = xyz c.at
 
-pub uv_wide : (c : Corner) → length (uv_bytes c) ≡ 16
-uv_wide c = codes_uv.wide (uv_of (corner_of c))
+pub uv_wide : (c : Corner Vec3) → length (uv_bytes c) ≡ 16
+uv_wide c = codes_uv.wide (uv_of c)
 
-pub xyz_wide : (c : Corner) → length (xyz_bytes c) ≡ 24
+pub xyz_wide : (c : Corner Vec3) → length (xyz_bytes c) ≡ 24
 xyz_wide c = codes_xyz.wide c.at
 
 -- as reals in a row
@@ -35,12 +34,12 @@ three_reals x y z = ap (λ (l : List ℕ). real x ++ (real y ++ l)) (append-nil 
 
 -- of all corners
 
-pub all_uv : (t : List Corner) → row uv_bytes t ≡ row uv (map uv_of (rows t))
-unfolding row rows
+pub all_uv : (t : Corners Vec3) → row uv_bytes t ≡ row uv (map uv_of t)
+unfolding row
 all_uv [] = refl
 all_uv (c ∷ t) = ap (λ (l : List ℕ). uv_bytes c ++ l) (all_uv t)
 
-pub all_xyz : (t : List Corner) → row xyz_bytes t ≡ row xyz (positions (rows t))
-unfolding row rows
+pub all_xyz : (t : Corners Vec3) → row xyz_bytes t ≡ row xyz (positions t)
+unfolding row
 all_xyz [] = refl
 all_xyz (c ∷ t) = ap (λ (l : List ℕ). xyz_bytes c ++ l) (all_xyz t)

@@ -58,7 +58,7 @@ module _ (counts : List ℕ) (areas : List Float) (t : List Held) (out : List �
   unfolding header_holds
   few_short = and_snd (1 ≤? length counts) _ header
 
-  fitting : Fitting out counts areas (sum counts) t
+  fitting : Fitting out counts areas (sum counts) (rows t)
   unfolding result_fits header_holds
   fitting =
       let bytes = and_snd (header_holds counts) _ fits in

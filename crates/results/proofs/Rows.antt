@@ -8,8 +8,9 @@ use lib.Ieee.{Float, nan, binary64, to_bits}
 use Rattle.std.specs.Int.{w64, to_le_bytes}
 use Rattle.records.specs.Bytes.{bytes, u16, real, row}
 use Rattle.records.proofs.RoundTrip.{codes_u16, codes_real}
-use Rattle.tables.specs.declared.corners.Corner.{Corner as Held}
-use Rattle.tables.proofs.Rows.{absent}
+use Rattle.numbers.specs.declared.math.Vec3.{Vec3}
+use Rattle.tables.specs.Corners.{Corner, Corners}
+use Rattle.tables.specs.Rows.{none}
 use Rattle.results.proofs.Stores.{Storing, store_start, store_turn, store_end, as_real}
 
 -- ---- counts
@@ -52,14 +53,14 @@ module _ {out₀ : List ℕ} {p : ℕ} {xs : List Float} where
 
 -- ---- corners
 
-module _ {write : Held → List ℕ} {w : ℕ} (wide : (c : Held) → length (write c) ≡ w) {out₀ : List ℕ} {p : ℕ} {t : List Held} where
+module _ {write : Corner Vec3 → List ℕ} {w : ℕ} (wide : (c : Corner Vec3) → length (write c) ≡ w) {out₀ : List ℕ} {p : ℕ} {t : Corners Vec3} where
   pub corners_start : Storing write w out₀ p t out₀ 0
   corners_start = store_start wide
 
   module _ {out : List ℕ} {i : ℕ} (r : Storing write w out₀ p t out i) where
-    pub corners_turn : {out' bytes : List ℕ} → i < length t → bytes ≡ write (get_or t i absent) → out' ≡ sets out (p + w * i) bytes
+    pub corners_turn : {out' bytes : List ℕ} → i < length t → bytes ≡ write (get_or t i none) → out' ≡ sets out (p + w * i) bytes
         → Storing write w out₀ p t out' (i + 1)
-    corners_turn {out'} {bytes} h b e = store_turn wide r absent h (e ∙ ap (sets out (p + w * i)) b)
+    corners_turn {out'} {bytes} h b e = store_turn wide r none h (e ∙ ap (sets out (p + w * i)) b)
 
     pub corners_end : {whole : List ℕ} → length t ≤ i → row write t ≡ whole → out ≡ sets out₀ p whole
     corners_end h e = store_end wide r h ∙ ap (sets out₀ p) e

@@ -52,16 +52,20 @@ size_of counts = then_some (header_holds counts) (size_by counts)
 unfoldable pub result_fits : List ℕ → (areas room lent : ℕ) → Bool
 result_fits counts areas room lent = header_holds counts && ((length_of counts ≤? lent) && ((length counts ≤? areas) && (sum counts ≤? room)))
 
-pub record WrittenTo (path : Path) (counts : List ℕ) (areas : List Float) (t : List Held) (out out' : List ℕ) (r : Option ℕ) : Type 0 where
-  pub answer : r ≡ then_some (result_fits counts (length areas) (length (rows t)) (length out)) (length_of counts)
-  pub is : out' ≡ filled_if (result_fits counts (length areas) (length (rows t)) (length out)) (encode (table_result (path_of path) counts areas (rows t))) out
+pub record RowsWrittenTo (path : Path) (counts : List ℕ) (areas : List Float) (rows : Corners Vec3) (out out' : List ℕ) (r : Option ℕ) : Type 0 where
+  pub answer : r ≡ then_some (result_fits counts (length areas) (length rows) (length out)) (length_of counts)
+  pub is : out' ≡ filled_if (result_fits counts (length areas) (length rows) (length out)) (encode (table_result (path_of path) counts areas rows)) out
+
+-- of a table of corners, its rows
+abbrev pub WrittenTo : Path → List ℕ → List Float → List Held → List ℕ → List ℕ → Option ℕ → Type 0
+WrittenTo path counts areas t = RowsWrittenTo path counts areas (rows t)
 
 -- ---- the table holds a record of m corners, and it fits the lent bytes
 
-pub record Fitting (out counts : List ℕ) (areas : List Float) (m : ℕ) (t : List Held) : Type 0 where
+pub record Fitting (out counts : List ℕ) (areas : List Float) (m : ℕ) (rows : Corners Vec3) : Type 0 where
   pub outer : 1 ≤ length counts
   pub few : length counts ≤ 256
   pub corners : m ≡ sum counts
   pub an_area_each : length counts ≤ length areas
-  pub room : m ≤ length (rows t)
+  pub room : m ≤ length rows
   pub long : length_of counts ≤ length out

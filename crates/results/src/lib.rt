@@ -9,12 +9,11 @@ ghost use Rattle.records.specs.Bytes.{u16, real, uv, xyz, row};
 ghost use Rattle.records.specs.Result.{encode};
 ghost use Rattle.records.specs.Lent.{front};
 ghost use Rattle.tables.specs.Corners.{uv_of, positions};
-ghost use Rattle.tables.specs.Rows.{rows};
-ghost use Rattle.results.specs.Written.{path_of, table_result, size_of, Fitting, WrittenTo};
+ghost use Rattle.results.specs.Written.{path_of, table_result, size_of, Fitting, RowsWrittenTo};
 
 use numbers::bits;
-use tables::corners::Corner;
 use tables::loops::Loops;
+use tables::table_row::TableRow;
 
 #[derive(Clone, Copy)]
 pub enum Path {
@@ -105,28 +104,30 @@ fn put_reals(out: &mut [u8], at: usize, xs: &[f64])
     }
 }
 
-fn put_parameters(out: &mut [u8], at: usize, t: &[Corner])
+fn put_parameters<R: TableRow>(out: &mut [u8], at: usize, t: &[R])
     requires { at + 16 * length t.now ≤ length out.old }
-    ensures { out.new ≡ sets out.old at (row uv (map uv_of (rows t.now))) }
+    ensures { out.new ≡ sets out.old at (row uv (map uv_of (R.rows_of t.now))) }
 {
-    for (i, c) in t.iter().enumerate() {
+    for (i, row) in t.iter().enumerate() {
+        let c = row.corner();
         put_reals(out, at + 16 * i, &[c.u, c.v]);
     }
 }
 
-fn put_positions(out: &mut [u8], at: usize, t: &[Corner])
+fn put_positions<R: TableRow>(out: &mut [u8], at: usize, t: &[R])
     requires { at + 24 * length t.now ≤ length out.old }
-    ensures { out.new ≡ sets out.old at (row xyz (positions (rows t.now))) }
+    ensures { out.new ≡ sets out.old at (row xyz (positions (R.rows_of t.now))) }
 {
-    for (i, c) in t.iter().enumerate() {
+    for (i, row) in t.iter().enumerate() {
+        let c = row.corner();
         put_reals(out, at + 24 * i, &[c.at.x, c.at.y, c.at.z]);
     }
 }
 
 // The whole record, where all fits: m is the number of corners.
-fn put_result(out: &mut [u8], path: Path, loops: Loops, areas: &[f64], m: usize)
-    requires { Fitting out.old loops.counts.now areas.now m loops.corners.now }
-    ensures { out.new ≡ front (encode (table_result (path_of path) loops.entry.counts.now areas.now (rows loops.entry.corners.now))) out.old }
+fn put_result<R: TableRow>(out: &mut [u8], path: Path, loops: Loops<R>, areas: &[f64], m: usize)
+    requires { Fitting out.old loops.counts.now areas.now m (R.rows_of loops.corners.now) }
+    ensures { out.new ≡ front (encode (table_result (path_of path) loops.entry.counts.now areas.now (R.rows_of loops.entry.corners.now))) out.old }
 {
     let n = loops.counts.len();
     let t = &loops.corners[..m];
@@ -139,8 +140,13 @@ fn put_result(out: &mut [u8], path: Path, loops: Loops, areas: &[f64], m: usize)
 
 // The loops, the outer one first, and an area for each. Areas and table may be longer than what is
 // taken from them. Answers the record's length, where all fits.
-pub fn write_result(path: Path, loops: Loops, areas: &[f64], out: &mut [u8]) -> Option<usize>
-    ensures { WrittenTo path loops.entry.counts.now areas.now loops.entry.corners.now out.old out.new result }
+pub fn write_result<R: TableRow>(
+    path: Path,
+    loops: Loops<R>,
+    areas: &[f64],
+    out: &mut [u8],
+) -> Option<usize>
+    ensures { RowsWrittenTo path loops.entry.counts.now areas.now (R.rows_of loops.entry.corners.now) out.old out.new result }
 {
     let size = result_size(loops.counts)?;
     if out.len() < size.length {

@@ -5,4 +5,4 @@ use Rattle.results.proofs.Stores.{Storing}
 use Rattle.results.proofs.put_positions.Given as goal
 
 abbrev pub invariant-loop-i : goal.invariant-loop-i
-invariant-loop-i l = (l.i ≤ length l.t) × Storing xyz_bytes 24 l.initial.out l.at l.t l.out l.i
+invariant-loop-i g l = (l.i ≤ length l.t) × Storing xyz_bytes 24 l.initial.out l.at (g.R.TableRow.rows_of l.t) l.out l.i
