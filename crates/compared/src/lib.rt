@@ -5,9 +5,8 @@
 // that type's `From` could stand in its own crate alone.
 //
 // A table is a slice of reals in C, five to a corner or four to a box; what stands behind its last whole
-// row is no row, and stays. An export that only reads a table takes a `&mut` of it all the same, as there
-// is no view of a `&[f64]` as corners. C passes the same pointer and length for it, a `const double *` too:
-// the layer below is lent a `&`, so nothing is written, and `unchanged` says that every real is as it was.
+// row is no row, and stays. A table that is only read goes to the layer below as rows of five or four
+// reals, which its functions read as they read corners and boxes; one that changes is lent by `views`.
 #![tactic(auto)]
 
 pub mod of_closed_region;

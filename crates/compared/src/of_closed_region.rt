@@ -18,31 +18,29 @@ use views::boxes::split_boxes_mut;
 use views::corners::split_corners_mut;
 
 #[unsafe(no_mangle)]
-#[tactic(auto, using(views::proofs::CornerRows::table_whole, views::proofs::BoxRows::items_after, views::proofs::BoxRows::rest_after))]
+#[tactic(auto, using(views::proofs::CornerRows::rows_read, views::proofs::BoxRows::items_after, views::proofs::BoxRows::rest_after))]
 pub extern "C" fn compared_closed_region(
-    t: &mut [f64],
+    t: &[f64],
     counts: &[usize],
     areas: &[f64],
     boxes: &mut [f64],
 ) -> usize
-    ensures unchanged { t.new ≡ t.old }
-    ensures value { result ≡ outer_among (pieces counts.now (rows (corners_of t.old))) areas.now (length (boxes_of boxes.old)) }
-    ensures boxes_after { boxes_of boxes.new ≡ placed 0 (map box_in (pieces counts.now (rows (corners_of t.old)))) (boxes_of boxes.old) }
+    ensures value { result ≡ outer_among (pieces counts.now (rows (corners_of t.now))) areas.now (length (boxes_of boxes.old)) }
+    ensures boxes_after { boxes_of boxes.new ≡ placed 0 (map box_in (pieces counts.now (rows (corners_of t.now)))) (boxes_of boxes.old) }
     ensures behind { behind_boxes boxes.new ≡ behind_boxes boxes.old }
 {
-    let (corners, _) = split_corners_mut(t);
+    let (corners, _) = t.as_chunks::<5>();
     let (held, _) = split_boxes_mut(boxes);
     let loops = Loops { corners, counts };
     closed_region::region::closed_region(loops, areas, held)
 }
 
 #[unsafe(no_mangle)]
-#[tactic(auto, using(views::proofs::BoxRows::table_whole))]
-pub extern "C" fn compared_outer_loop(boxes: &mut [f64], areas: &[f64]) -> usize
-    ensures unchanged { boxes.new ≡ boxes.old }
-    ensures value { result ≡ outer_of (boxes_of boxes.old) areas.now }
+#[tactic(auto, using(views::proofs::BoxRows::boxes_read))]
+pub extern "C" fn compared_outer_loop(boxes: &[f64], areas: &[f64]) -> usize
+    ensures { result ≡ outer_of (boxes_of boxes.now) areas.now }
 {
-    let (held, _) = split_boxes_mut(boxes);
+    let (held, _) = boxes.as_chunks::<4>();
     closed_region::enclosing::outer_loop(held, areas)
 }
 

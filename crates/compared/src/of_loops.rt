@@ -11,7 +11,6 @@ ghost use Rattle.views.specs.Tables.{corners_of};
 ghost use Rattle.compared.specs.Surfaces.{period_of};
 
 use super::of_surfaces::period_of;
-use views::corners::split_corners_mut;
 
 #[unsafe(no_mangle)]
 pub extern "C" fn compared_nearest_branch(value: f64, reference: f64, period: f64) -> f64
@@ -21,52 +20,47 @@ pub extern "C" fn compared_nearest_branch(value: f64, reference: f64, period: f6
 }
 
 #[unsafe(no_mangle)]
-#[tactic(auto, using(views::proofs::CornerRows::table_whole))]
-pub extern "C" fn compared_net_wrap(t: &mut [f64], period: f64) -> i32
-    ensures unchanged { t.new ≡ t.old }
-    ensures value { result ≡ net_wrap (period_of period) (us (rows (corners_of t.old))) }
+#[tactic(auto, using(views::proofs::CornerRows::rows_read))]
+pub extern "C" fn compared_net_wrap(t: &[f64], period: f64) -> i32
+    ensures { result ≡ net_wrap (period_of period) (us (rows (corners_of t.now))) }
 {
     let p = period_of(period);
-    let (corners, _) = split_corners_mut(t);
+    let (corners, _) = t.as_chunks::<5>();
     loops::rows::net_wrap(corners, p)
 }
 
 #[unsafe(no_mangle)]
-#[tactic(auto, using(views::proofs::CornerRows::table_whole))]
-pub extern "C" fn compared_signed_area(t: &mut [f64]) -> f64
-    ensures unchanged { t.new ≡ t.old }
-    ensures value { result ≡ area_of (us (rows (corners_of t.old))) (vs (rows (corners_of t.old))) }
+#[tactic(auto, using(views::proofs::CornerRows::rows_read))]
+pub extern "C" fn compared_signed_area(t: &[f64]) -> f64
+    ensures { result ≡ area_of (us (rows (corners_of t.now))) (vs (rows (corners_of t.now))) }
 {
-    let (corners, _) = split_corners_mut(t);
+    let (corners, _) = t.as_chunks::<5>();
     loops::rows::signed_area(corners)
 }
 
 #[unsafe(no_mangle)]
-#[tactic(auto, using(views::proofs::CornerRows::table_whole))]
-pub extern "C" fn compared_mean_v(t: &mut [f64]) -> f64
-    ensures unchanged { t.new ≡ t.old }
-    ensures value { result ≡ mean_of (vs (rows (corners_of t.old))) }
+#[tactic(auto, using(views::proofs::CornerRows::rows_read))]
+pub extern "C" fn compared_mean_v(t: &[f64]) -> f64
+    ensures { result ≡ mean_of (vs (rows (corners_of t.now))) }
 {
-    let (corners, _) = split_corners_mut(t);
+    let (corners, _) = t.as_chunks::<5>();
     wrapped_region::mean::mean_v(corners)
 }
 
 #[unsafe(no_mangle)]
-#[tactic(auto, using(views::proofs::CornerRows::table_whole))]
-pub extern "C" fn compared_least(t: &mut [f64]) -> f64
-    ensures unchanged { t.new ≡ t.old }
-    ensures value { result ≡ least_of (us (rows (corners_of t.old))) }
+#[tactic(auto, using(views::proofs::CornerRows::rows_read))]
+pub extern "C" fn compared_least(t: &[f64]) -> f64
+    ensures { result ≡ least_of (us (rows (corners_of t.now))) }
 {
-    let (corners, _) = split_corners_mut(t);
+    let (corners, _) = t.as_chunks::<5>();
     rings::table_choices::least(corners)
 }
 
 #[unsafe(no_mangle)]
-#[tactic(auto, using(views::proofs::CornerRows::table_whole))]
-pub extern "C" fn compared_greatest(t: &mut [f64]) -> f64
-    ensures unchanged { t.new ≡ t.old }
-    ensures value { result ≡ greatest_of (us (rows (corners_of t.old))) }
+#[tactic(auto, using(views::proofs::CornerRows::rows_read))]
+pub extern "C" fn compared_greatest(t: &[f64]) -> f64
+    ensures { result ≡ greatest_of (us (rows (corners_of t.now))) }
 {
-    let (corners, _) = split_corners_mut(t);
+    let (corners, _) = t.as_chunks::<5>();
     rings::table_choices::greatest(corners)
 }

@@ -11,7 +11,6 @@ ghost use Rattle.compared.specs.Records.{counted, path_from, room_of};
 use super::of_records::Counted;
 use results::{Path, RecordSize};
 use tables::loops::Loops;
-use views::corners::split_corners_mut;
 
 // What a record takes: `holds` is 0 where a record cannot hold the counts, else 1.
 #[repr(C)]
@@ -59,19 +58,18 @@ pub extern "C" fn compared_result_size(counts: &[usize]) -> Room
 }
 
 #[unsafe(no_mangle)]
-#[tactic(auto, using(views::proofs::CornerRows::table_whole))]
+#[tactic(auto, using(views::proofs::CornerRows::rows_read))]
 pub extern "C" fn compared_write_result(
     path: u32,
     counts: &[usize],
     areas: &[f64],
-    t: &mut [f64],
+    t: &[f64],
     out: &mut [u8],
 ) -> Counted
-    ensures unchanged { t.new ≡ t.old }
-    ensures value { result ≡ counted (then_some (result_fits counts.now (length areas.now) (length (rows (corners_of t.old))) (length out.old)) (length_of counts.now)) }
-    ensures out_after { out.new ≡ filled_if (result_fits counts.now (length areas.now) (length (rows (corners_of t.old))) (length out.old)) (encode (table_result (path_of (path_from path)) counts.now areas.now (rows (corners_of t.old)))) out.old }
+    ensures value { result ≡ counted (then_some (result_fits counts.now (length areas.now) (length (rows (corners_of t.now))) (length out.old)) (length_of counts.now)) }
+    ensures out_after { out.new ≡ filled_if (result_fits counts.now (length areas.now) (length (rows (corners_of t.now))) (length out.old)) (encode (table_result (path_of (path_from path)) counts.now areas.now (rows (corners_of t.now)))) out.old }
 {
-    let (corners, _) = split_corners_mut(t);
+    let (corners, _) = t.as_chunks::<5>();
     let loops = Loops { corners, counts };
     Counted::from(results::write_result(path_from(path), loops, areas, out))
 }

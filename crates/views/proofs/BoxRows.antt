@@ -1,6 +1,8 @@
 -- What the lists of `specs/BoxTables.antt` have to do with each other.
-use Rattle.std.proofs.Common.{◌≡◌, ◌+◌, ◌*◌, ◌/◌, ◌%◌, ◌<◌, List, [], ◌∷◌, ◌++◌, length, refl, ap, arith, lit<}
+use Rattle.std.proofs.Common.{◌≡◌, ◌+◌, ◌*◌, ◌/◌, ◌%◌, ◌<◌, List, [], ◌∷◌, ◌++◌, length, map, refl, ap, ◌∙◌, arith, lit<}
+use Rattle.std.specs.Simd.{first_chunks}
 use Rattle.std.specs.Prelude.{Float}
+use Rattle.closed_region.specs.BoxRows.{four_reals}
 use Rattle.closed_region.specs.declared.boxes.Bounds.{Bounds}
 use Rattle.views.specs.BoxTables.{boxes_of, rest_of, reals_of}
 
@@ -66,3 +68,15 @@ pub rest_after : (cs : List Bounds) (xs : List Float) → rest_of (reals_of cs +
 unfolding rest_of reals_of
 rest_after [] xs = rest_alone xs
 rest_after (c ∷ cs) xs = rest_after cs xs
+
+-- read by fours the table has these boxes
+by_fours : (xs : List Float) → map four_reals (first_chunks 4 (length (boxes_of xs)) xs) ≡ boxes_of xs
+unfolding boxes_of
+by_fours [] = refl
+by_fours (u ∷ []) = refl
+by_fours (u ∷ v ∷ []) = refl
+by_fours (u ∷ v ∷ x ∷ []) = refl
+by_fours (u ∷ v ∷ x ∷ y ∷ rest) = ap (λ (l : List Bounds). four_reals (u ∷ v ∷ x ∷ y ∷ []) ∷ l) (by_fours rest)
+
+pub boxes_read : (xs : List Float) → map four_reals (first_chunks 4 (length xs / 4) xs) ≡ boxes_of xs
+boxes_read xs = ap (λ k. map four_reals (first_chunks 4 k xs)) (rows_count xs) ∙ by_fours xs

@@ -1,6 +1,10 @@
 -- What the lists of `specs/Tables.antt` have to do with each other.
-use Rattle.std.proofs.Common.{◌≡◌, ◌+◌, ◌*◌, ◌/◌, ◌%◌, ◌<◌, List, [], ◌∷◌, ◌++◌, length, refl, ap, arith, lit<}
+use Rattle.std.proofs.Common.{◌≡◌, ◌+◌, ◌*◌, ◌/◌, ◌%◌, ◌<◌, List, [], ◌∷◌, ◌++◌, length, map, refl, ap, ◌∙◌, arith, lit<}
+use Rattle.std.specs.Simd.{first_chunks}
 use Rattle.std.specs.Prelude.{Float}
+use Rattle.numbers.specs.declared.math.Vec3.{Vec3}
+use Rattle.tables.specs.Corners.{Corners}
+use Rattle.tables.specs.Rows.{rows, five_reals}
 use Rattle.tables.specs.declared.corners.Corner.{Corner}
 use Rattle.views.specs.Tables.{corners_of, rest_of, reals_of}
 
@@ -71,3 +75,16 @@ pub rest_after : (cs : List Corner) (xs : List Float) → rest_of (reals_of cs +
 unfolding rest_of reals_of
 rest_after [] xs = rest_alone xs
 rest_after (c ∷ cs) xs = rest_after cs xs
+
+-- read by fives the table has these rows
+by_fives : (xs : List Float) → map five_reals (first_chunks 5 (length (corners_of xs)) xs) ≡ rows (corners_of xs)
+unfolding corners_of rows
+by_fives [] = refl
+by_fives (u ∷ []) = refl
+by_fives (u ∷ v ∷ []) = refl
+by_fives (u ∷ v ∷ x ∷ []) = refl
+by_fives (u ∷ v ∷ x ∷ y ∷ []) = refl
+by_fives (u ∷ v ∷ x ∷ y ∷ z ∷ rest) = ap (λ (l : Corners Vec3). five_reals (u ∷ v ∷ x ∷ y ∷ z ∷ []) ∷ l) (by_fives rest)
+
+pub rows_read : (xs : List Float) → map five_reals (first_chunks 5 (length xs / 5) xs) ≡ rows (corners_of xs)
+rows_read xs = ap (λ k. map five_reals (first_chunks 5 k xs)) (rows_count xs) ∙ by_fives xs
