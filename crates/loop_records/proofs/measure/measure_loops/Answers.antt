@@ -1,9 +1,8 @@
-use Rattle.std.proofs.Common.{length, ap, refl, sym, ◌∙◌, replicate, arith, rules}
+use Rattle.std.proofs.Common.{ap, refl, sym, ◌∙◌, replicate, arith, rules}
 use Rattle.lists.specs.Placed.{placed}
 use Rattle.tables.proofs.LoopLaws.{loops_counted}
 use Rattle.tables.proofs.Rows.{length-rows}
 use Rattle.tables.specs.Rows.{rows}
-use Rattle.tables.specs.Loops.{loops_in}
 use Rattle.loop_records.proofs.Recorded.{no_recording, recording, recording_room, recording_turn, recording_end}
 use Rattle.loop_records.proofs.measure.measure_loops.Goals as goal
 
