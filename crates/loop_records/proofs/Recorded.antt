@@ -57,21 +57,21 @@ module _ (period : Option Float) where
   unfolding records_from
   no-record start = refl
 
--- the records that are still to be stored: of the loops that are left, which begin at `start` of n rows
-module _ (period : Option Float) (all : List LoopRecord) (n : ℕ) where
+-- the records that are still to be stored, in a list of m: of the loops that are left, which begin at `start` of n rows
+module _ (period : Option Float) (all : List LoopRecord) (n m : ℕ) where
   pub record Recording (d : List LoopRecord) (i start : ℕ) (left : List (Corners Vec3)) : Type 0 where
     pub stored : Remaining all d i (records_from period start left)
     pub within : start + length (flatten left) ≤ n
-    pub sixteen : length d ≡ 16
+    pub as_long : length d ≡ m
 
   module _ (d : List LoopRecord) (i start : ℕ) (left : List (Corners Vec3)) (r : Corners Vec3) (rest : List (Corners Vec3))
       (k : Recording d i start left) (e : left ≡ r ∷ rest) where
-    pub recording_room : (i < 16) × (start + length r ≤ n)
+    pub recording_room : (i < m) × (start + length r ≤ n)
     unfolding flatten
     recording_room =
         let many = ap length e in
         let long = ap (λ (ls : List (Corners Vec3)). length (flatten ls)) e ∙ length-append r (flatten rest) in
-        (omega (arith, k.stored.room, k.sixteen, length_records period start left, many), omega (arith, k.within, long))
+        (omega (arith, k.stored.room, k.as_long, length_records period start left, many), omega (arith, k.within, long))
 
     pub recording_turn : Recording (set d i (record_of period start r)) (i + 1) (start + length r) rest
     unfolding flatten
@@ -79,7 +79,7 @@ module _ (period : Option Float) (all : List LoopRecord) (n : ℕ) where
       stored = remaining_turn all d i (records_from period start left) (record_of period start r) (records_from period (start + length r) rest) k.stored
           (ap (records_from period start) e ∙ first-record period start r rest);
       within = let long = ap (λ (ls : List (Corners Vec3)). length (flatten ls)) e ∙ length-append r (flatten rest) in omega (arith, k.within, long);
-      sixteen = length-set d i (record_of period start r) ∙ k.sixteen;
+      as_long = length-set d i (record_of period start r) ∙ k.as_long;
     }
 
   pub recording_end : (d : List LoopRecord) (i start : ℕ) (left : List (Corners Vec3)) → Recording d i start left → left ≡ [] → d ≡ all
@@ -95,14 +95,24 @@ module _ (period : Option Float) (ns : List ℕ) (xs : Corners Vec3) (d₀ : Lis
   pub no_recording : length d₀ < length ns → d₀ ≡ placed 0 wanted d₀
   no_recording h = let l = length_wanted in sym (placed_short 0 wanted d₀ (omega arith))
 
-  pub recording : length ns ≤ 16 → length d₀ ≡ 16 → Recording period (placed 0 wanted d₀) (length xs) d₀ 0 0 (pieces ns xs)
-  recording h e = record { stored = remaining wanted d₀ (let l = length_wanted in omega arith); within = omega (arith, pieces_fit ns xs); sixteen = e }
+  pub recording : length ns ≤ length d₀ → Recording period (placed 0 wanted d₀) (length xs) (length d₀) d₀ 0 0 (pieces ns xs)
+  recording h = record { stored = remaining wanted d₀ (let l = length_wanted in omega arith); within = omega (arith, pieces_fit ns xs); as_long = refl }
 
--- what is read of each record: of those of the loops, in front
-pub read_out : {B : Type 0} (f : LoopRecord → B) (period : Option Float) (ns : List ℕ) (xs : Corners Vec3) (d : List LoopRecord) (b : List B) → length ns ≤ 16
-    → d ≡ placed 0 (records_from period 0 (pieces ns xs)) (replicate 16 no_loop) → b ≡ map f d → take (length ns) b ≡ map f (records_from period 0 (pieces ns xs))
-read_out f period ns xs d b few e r =
+-- the records of the loops stand in front
+in_front : (period : Option Float) (ns : List ℕ) (xs : Corners Vec3) (d : List LoopRecord) → length ns ≤ 16 → d ≡ placed 0 (records_from period 0 (pieces ns xs)) (replicate 16 no_loop)
+    → take (length ns) d ≡ records_from period 0 (pieces ns xs)
+in_front period ns xs d few e =
     let w : List LoopRecord = records_from period 0 (pieces ns xs) in
     let l : length w ≡ length ns = length_records period 0 (pieces ns xs) ∙ length-pieces ns xs in
-    let front : take (length ns) d ≡ w = ap (take (length ns)) e ∙ ap (λ (n : ℕ). take n (placed 0 w (replicate 16 no_loop))) (sym l) ∙ front-placed w (replicate 16 no_loop) (omega arith) in
-    ap (take (length ns)) r ∙ sym (map-take f (length ns) d) ∙ ap (map f) front
+    ap (take (length ns)) e ∙ ap (λ (n : ℕ). take n (placed 0 w (replicate 16 no_loop))) (sym l) ∙ front-placed w (replicate 16 no_loop) (omega arith)
+
+-- what is read out of the list, of each loop: f of its record
+pub read_out : {B : Type 0} (f : LoopRecord → B) (period : Option Float) (ns : List ℕ) (xs : Corners Vec3) (d : List LoopRecord) (b₀ b : List B) → length ns ≤ 16
+    → d ≡ placed 0 (records_from period 0 (pieces ns xs)) (replicate 16 no_loop) → b ≡ placed 0 (map f (take (length ns) d)) b₀
+    → b ≡ placed 0 (map f (records_from period 0 (pieces ns xs))) b₀
+read_out f period ns xs d b₀ b few e r = r ∙ ap (λ (y : List LoopRecord). placed 0 (map f y) b₀) (in_front period ns xs d few e)
+
+-- what is read of each record: of those of the loops, in front
+pub read_in_front : {B : Type 0} (f : LoopRecord → B) (period : Option Float) (ns : List ℕ) (xs : Corners Vec3) (d : List LoopRecord) (b : List B) → length ns ≤ 16
+    → d ≡ placed 0 (records_from period 0 (pieces ns xs)) (replicate 16 no_loop) → b ≡ map f d → take (length ns) b ≡ map f (records_from period 0 (pieces ns xs))
+read_in_front f period ns xs d b few e r = ap (take (length ns)) r ∙ sym (map-take f (length ns) d) ∙ ap (map f) (in_front period ns xs d few e)

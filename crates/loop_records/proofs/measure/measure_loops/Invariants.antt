@@ -8,5 +8,5 @@ use Rattle.loop_records.proofs.measure.measure_loops.Given as goal
 
 abbrev pub invariant-loop-i : goal.invariant-loop-i
 invariant-loop-i l =
-    Recording l.period (placed 0 (records_from l.period 0 (loops_in l.loops)) l.initial.records) (length (rows l.loops.corners.now)) l.records l.i-iterator.count l.start
+    Recording l.period (placed 0 (records_from l.period 0 (loops_in l.loops)) l.initial.records) (length (rows l.loops.corners.now)) 16 l.records l.i-iterator.count l.start
     (loops_in l.i-iterator.iter)
