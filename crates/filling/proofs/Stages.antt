@@ -10,7 +10,6 @@ use lib.ListN.{length, length-map, get_or, take, replicate}
 use Rattle.std.proofs.Common.{Option}
 use Rattle.lists.specs.Pieces.{pieces}
 use Rattle.lists.specs.Placed.{placed}
-use Rattle.lists.proofs.Maps.{map-take}
 use Rattle.lists.proofs.Pieces.{length-pieces}
 use Rattle.lists.proofs.Placed.{front-placed}
 use Rattle.surfaces.specs.declared.patch.Patch.{Patch}
@@ -40,7 +39,7 @@ use Rattle.measuring.specs.Head.{frame_at, options_at}
 use Rattle.loop_records.specs.Loops.{records_from}
 use Rattle.measuring.proofs.Heads.{frame_read, surface_read, options_read}
 use Rattle.call.proofs.Judged.{wrapping_in}
-use Rattle.measuring.proofs.Measured.{wraps_shown, areas_shown}
+use Rattle.measuring.proofs.Measured.{wraps-along, areas-along}
 use Rattle.loop_records.proofs.Recorded.{length_records, read_out}
 use Rattle.std.specs.Prelude.{Result, Err}
 use Rattle.records.specs.declared.refusal.Refusal.{Refusal}
@@ -173,23 +172,25 @@ module _ (s : List ℕ) (a : Accepted version1 s) (head : List Float) (counts : 
     records_in = recorded ∙ ap (λ (q : Option Float). placed 0 (records_from q 0 (pieces counts (rows t))) (replicate 16 no_loop)) p_is
 
     module _ (l : ℕ) (l_is : l ≡ length counts) where
+      -- what is read out of the records, of each loop: f of its record
+      out : {B : Type 0} (f : LoopRecord → B) (b₀ b : List B) → b ≡ placed 0 (map f (take l records)) b₀ → b ≡ placed 0 (map f (records_from p 0 (pieces counts (rows t)))) b₀
+      out f b₀ b e = read_out f p counts (rows t) records b₀ b few-counts recorded (e ∙ ap (λ (k : ℕ). placed 0 (map f (take k records)) b₀) l_is)
+
       -- f of the first records, put into the front of a lent slice, and read there
       front_read : {B : Type 0} (f : LoopRecord → B) (b₀ b : List B) → 16 ≤ length b₀ → b ≡ placed 0 (map f (take l records)) b₀
           → take l b ≡ map f (records_from p 0 (pieces counts (rows t)))
       front_read f b₀ b room e =
           let few = few-counts in
           let w : List _ = map f (records_from p 0 (pieces counts (rows t))) in
-          let read : map f (take l records) ≡ w = ap (λ (k : ℕ). map f (take k records)) l_is ∙ map-take f (length counts) records
-          ∙ read_out f p counts (rows t) records (map f records) few-counts recorded refl in
           let many : length w ≡ l = length-map (records_from p 0 (pieces counts (rows t))) f ∙ length_records p 0 (pieces counts (rows t)) ∙ length-pieces counts (rows t) ∙ sym l_is in
-          (λ i. take (sym many i) ((e ∙ ap (λ (xs : List _). placed 0 xs b₀) read) i)) ∙ front-placed w b₀ (omega arith)
+          (λ i. take (sym many i) (out f b₀ b e i)) ∙ front-placed w b₀ (omega arith)
 
       pub wraps_in_lem : (w₀ w : List ℤ) → 16 ≤ length w₀ → w ≡ placed 0 (map (λ (one : LoopRecord). one.wrap) (take l records)) w₀ → take l w ≡ wraps_in s
       wraps_in_lem w₀ w room e =
           front_read (λ (one : LoopRecord). one.wrap) w₀ w room e
           ∙ ap (λ (q : Option Float). map (λ (one : LoopRecord). one.wrap) (records_from q 0 (pieces counts (rows t)))) (p_is ∙ ap u_period surface_is)
-          ∙ wraps_shown s (pieces counts (rows t)) held
+          ∙ wraps-along s (pieces counts (rows t)) held
 
       pub areas_in : (m₀ m : List Float) → 16 ≤ length m₀ → m ≡ placed 0 (map (λ (one : LoopRecord). one.area) (take l records)) m₀
           → take l m ≡ map signed_area (pieces counts (rows t))
-      areas_in m₀ m room e = front_read (λ (one : LoopRecord). one.area) m₀ m room e ∙ areas_shown p 0 (pieces counts (rows t))
+      areas_in m₀ m room e = front_read (λ (one : LoopRecord). one.area) m₀ m room e ∙ areas-along p 0 (pieces counts (rows t))
