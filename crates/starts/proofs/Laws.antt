@@ -8,10 +8,10 @@ use native.Mathlib.Omega.{arith}
 use borrow.Author.Tests.{lt-ltb, le-ltb}
 use lib.Dec.{ltb}
 use lib.Ieee.{Float}
-use lib.ListN.{length, length-map}
+use lib.ListN.{length, take, drop, length-map}
 use Rattle.numbers.specs.declared.math.Vec3.{Vec3}
 use Rattle.lists.specs.Placed.{placed}
-use Rattle.lists.proofs.Placed.{placed_whole}
+use Rattle.lists.proofs.Placed.{length-placed, read_placed, before_placed, placed_whole}
 use Rattle.tables.specs.Corners.{Corner, Corners, us}
 use Rattle.tables.specs.Moves.{moved_by}
 use Rattle.tables.specs.Rows.{rows}
@@ -23,7 +23,7 @@ use Rattle.rings.specs.Starts as Starts
 use Rattle.rings.specs.Starts.{first_for, later_for, later_by, serves, first_serving}
 use Rattle.rings.specs.Turns.{begin_ring_at}
 use Rattle.rings.proofs.ReadRows.{us_of_reals}
-use Rattle.rings.proofs.ByU.{first_by_u, us_later}
+use Rattle.rings.proofs.ByU.{first_by_u, us_later, length-first_for, length-later_for}
 use Rattle.rings.proofs.Decisions.{serve_backward}
 use Rattle.starts.specs.Search as Answer
 use Rattle.starts.specs.Search.{not_searched, search_within}
@@ -43,6 +43,14 @@ module _ (t : List Held) (d d₁ d₂ : List Float) (fits : length d ≡ length 
   pub later_in : (period cut : Float) → d₂ ≡ later_by (λ u. u) moved_by period cut d₁ → d₂ ≡ us (later_for period cut (rows t))
   later_in period cut e = e ∙ ap (later_by (λ u. u) moved_by period cut) copy_is ∙ sym (us_later period cut (rows t))
 
+-- of each ring as it is put, as many u as it had points
+module _ (period : Float) (r : Corners Vec3) where
+  pub length-first : (k : ℕ) → length (us (first_for period k r)) ≡ length r
+  length-first k = length-us (first_for period k r) ∙ length-first_for period k r
+
+  pub length-later : (cut : Float) → length (us (later_for period cut r)) ≡ length r
+  length-later cut = length-us (later_for period cut r) ∙ length-later_for period cut r
+
 -- ---- how many starts a ring has
 
 pub starts_of : (first : List Held) (all : ℕ) → all ≡ length first - 1 → all ≡ length (rows first) - 1
@@ -54,20 +62,57 @@ module _ (period : Float) (first later : Corners Vec3) (k : ℕ) where
   abbrev begun : List Float
   begun = us (first_for period k first)
 
+  -- of the two rings' u in slices of their own
   module _ (u : List Float) (u_is : u ≡ begun) where
     as_reals : map (λ (x : Float). x) u ≡ begun
     as_reals = us_of_reals u ∙ u_is
 
-    pub trial_backward : (t : Bool) → t ≡ begins_backward (map (λ x. x) u) → t ≡ true → false ≡ serves period first later k
+    pub slice_backward : (t : Bool) → t ≡ begins_backward (map (λ x. x) u) → t ≡ true → false ≡ serves period first later k
     unfolding serves
-    trial_backward t e h = serve_backward period begun (us (later_for period (first_of begun) later)) t (e ∙ ap begins_backward as_reals) h
+    slice_backward t e h = serve_backward period begun (us (later_for period (first_of begun) later)) t (e ∙ ap begins_backward as_reals) h
 
-    pub trial_both : (cut : Float) → cut ≡ first_of (map (λ x. x) u) → (w : List Float) → w ≡ us (later_for period cut later)
+    pub slices_serve : (cut : Float) → cut ≡ first_of (map (λ x. x) u) → (w : List Float) → w ≡ us (later_for period cut later)
         → (t : Bool) → t ≡ serve period u w → t ≡ serves period first later k
     unfolding serves
-    trial_both cut cut_is w w_is t e =
+    slices_serve cut cut_is w w_is t e =
         let there : w ≡ us (later_for period (first_of begun) later) = w_is ∙ ap (λ (c : Float). us (later_for period c later)) (cut_is ∙ ap first_of as_reals) in
         e ∙ (λ i. serve period (u_is i) (there i))
+
+  -- of a scratch d: the parts that are put into it, the first ring's n values in front, and what is read out of it
+  module _ (n : ℕ) (n_is : n ≡ length first) where
+    long : length begun ≡ n
+    long = length-first period first k ∙ sym n_is
+
+    module _ (d d₁ : List Float) (room : length first + length later ≤ length d) (put : d₁ ≡ placed 0 begun d) where
+      begun_read : take (n - 0) (drop 0 d₁) ≡ begun
+      begun_read = let l = long in ap (λ (l : List Float). take (n - 0) (drop 0 l)) put ∙ read_placed 0 n begun d (omega arith) (omega arith)
+
+      pub trial_backward : (t : Bool) → t ≡ begins_backward (take (n - 0) (drop 0 d₁)) → t ≡ true → false ≡ serves period first later k
+      unfolding serves
+      trial_backward t e h = serve_backward period begun (us (later_for period (first_of begun) later)) t (e ∙ ap begins_backward begun_read) h
+
+      module _ (m : ℕ) (m_is : m ≡ length later) (cut : Float) (d₂ : List Float) (cut_is : cut ≡ first_of (take (n - 0) (drop 0 d₁)))
+          (put₂ : d₂ ≡ placed n (us (later_for period cut later)) d₁) where
+        there : n + length (us (later_for period cut later)) ≡ n + m
+        there = ap (λ (j : ℕ). n + j) (length-later period later cut ∙ sym m_is)
+
+        room₁ : n + m ≤ length d₁
+        room₁ = let same : length d₁ ≡ length d = ap length put ∙ length-placed 0 begun d in omega arith
+
+        begun_kept : take (n - 0) (drop 0 d₂) ≡ begun
+        begun_kept =
+            let whole : n - 0 ≡ n = omega arith in
+            ap (take (n - 0)) put₂ ∙ rw whole (before_placed n (n + m) (us (later_for period cut later)) d₁ there room₁) ∙ begun_read
+
+        later_read : take (n + m - n) (drop n d₂) ≡ us (later_for period (first_of begun) later)
+        later_read =
+            ap (λ (l : List Float). take (n + m - n) (drop n l)) put₂
+            ∙ read_placed n (n + m) (us (later_for period cut later)) d₁ there room₁
+            ∙ ap (λ (c : Float). us (later_for period c later)) (cut_is ∙ ap first_of begun_read)
+
+        pub trial_both : (t : Bool) → t ≡ serve period (take (n - 0) (drop 0 d₂)) (take (n + m - n) (drop n d₂)) → t ≡ serves period first later k
+        unfolding serves
+        trial_both t e = e ∙ (λ i. serve period (begun_kept i) (later_read i))
 
 -- ---- searching: the first of n numbers that passes
 

@@ -2,12 +2,12 @@ use Rattle.std.proofs.Common.{sym, ◌∙◌, arith, length}
 use lib.Seq.{length-take-le}
 use Rattle.tables.specs.Rows.{rows}
 use Rattle.tables.proofs.Rows.{length-rows}
-use Rattle.starts.proofs.Laws.{trial_backward, trial_both}
+use Rattle.starts.proofs.Laws.{slice_backward, slices_serve}
 use Rattle.starts.proofs.trials.serves.Goals as goal
 
 pub returns-then-begins_backward : goal.returns-then-begins_backward
 returns-then-begins_backward c =
-    trial_backward _ (rows c.args.first.now) (rows c.args.later.now) _ _ c.first_into.ensures _ c.begins_backward.ensures c.if-begins_backward.true
+    slice_backward _ (rows c.args.first.now) (rows c.args.later.now) _ _ c.first_into.ensures _ c.begins_backward.ensures c.if-begins_backward.true
 
 pub slice_bounds-put-end-2 : goal.slice_bounds-put-end-2
 slice_bounds-put-end-2 c =
@@ -20,4 +20,4 @@ later_into-requires c =
 
 pub returns : goal.returns
 returns c =
-    trial_both _ (rows c.args.first.now) (rows c.args.later.now) _ _ c.first_into.ensures _ c.first_of-cut.ensures _ c.later_into.ensures _ c.serve.ensures
+    slices_serve _ (rows c.args.first.now) (rows c.args.later.now) _ _ c.first_into.ensures _ c.first_of-cut.ensures _ c.later_into.ensures _ c.serve.ensures
