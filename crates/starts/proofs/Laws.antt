@@ -2,16 +2,17 @@
 use Prim.Native.Nat.{ℕ, suc, ◌+◌, ◌-◌, ◌≤◌, ◌<◌}
 use mathlib.Core.Path.{◌≡◌, refl, sym, ap, ◌∙◌}
 use mathlib.Core.Bool.{Bool, true, false, cond}
-use mathlib.Core.List.{List, map}
+use mathlib.Core.List.{List, ◌++◌, map, append_assoc}
 use native.Mathlib.Numerals.{add-one}
 use native.Mathlib.Omega.{arith}
 use borrow.Author.Tests.{lt-ltb, le-ltb}
 use lib.Dec.{ltb}
 use lib.Ieee.{Float}
 use lib.ListN.{length, take, drop, length-map}
+use lib.Seq.{drop-drop}
 use Rattle.numbers.specs.declared.math.Vec3.{Vec3}
 use Rattle.lists.specs.Placed.{placed}
-use Rattle.lists.proofs.Placed.{length-placed, read_placed, before_placed, placed_whole}
+use Rattle.lists.proofs.Placed.{placed-fits, length-placed, read_placed, before_placed, placed_whole}
 use Rattle.tables.specs.Corners.{Corner, Corners, us}
 use Rattle.tables.specs.Moves.{moved_by}
 use Rattle.tables.specs.Rows.{rows}
@@ -50,6 +51,13 @@ module _ (period : Float) (r : Corners Vec3) where
 
   pub length-later : (cut : Float) → length (us (later_for period cut r)) ≡ length r
   length-later cut = length-us (later_for period cut r) ∙ length-later_for period cut r
+
+-- a part written whole
+pub part_written : (at e : ℕ) (w w' d : List Float) → w' ≡ w → at + length w ≡ e → e ≤ length d → take at d ++ (w' ++ drop (e - at) (drop at d)) ≡ placed at w d
+part_written at e w w' d w_is end_is room =
+    let m : at + (e - at) ≡ at + length w = omega arith in
+    (λ i. take at d ++ (w_is i ++ (drop-drop (e - at) at d ∙ ap (λ (j : ℕ). drop j d) m) i))
+    ∙ sym (append_assoc (take at d) w (drop (at + length w) d)) ∙ sym (placed-fits at w d (omega arith))
 
 -- ---- how many starts a ring has
 
