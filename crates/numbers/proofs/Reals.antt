@@ -4,7 +4,7 @@ use native.Mathlib.Nat.{eq_of_mul-eq-mul_right, pow-succ'}
 use native.Mathlib.Decide.{dec_le}
 use mathlib.Core.Bool.{false≢true}
 use lib.Pow.{pow-lt}
-use lib.Ieee.{Float, nan, inf, fin, Format, binary64, prec, emax, low, up, down, round, neg, lt, fits, of_bits, to_unsigned, units, odd}
+use lib.Ieee.{Float, nan, inf, fin, Format, binary64, prec, emax, low, up, down, round, neg, lt, fits, of_bits, div, to_unsigned, units, odd}
 use lib.Ieee.Fits.{up_pos, down_pos, and_l, and_r, round-fits}
 use lib.Ieee.Exact.{HasValue, round_exact}
 use lib.Ieee.Nearest.{div_same}
@@ -18,6 +18,15 @@ Zero = fin false 0 (pos 0)
 
 abbrev pub Nought : Float
 Nought = of_bits binary64 0
+
+-- 0 / 0 is the NaN that the code writes, and 1 / 0 its plus infinity
+pub nought_by_nought : div binary64 Nought Nought ≡ of_bits binary64 0x7ff8_0000_0000_0000
+unfolding of_bits div
+nought_by_nought = refl
+
+pub one_by_nought : div binary64 (of_bits binary64 0x3ff0_0000_0000_0000) Nought ≡ of_bits binary64 0x7ff0_0000_0000_0000
+unfolding of_bits div
+one_by_nought = refl
 
 -- ---- what `fits` says of a finite value: few digits, and no exponent below the least
 pow_le_back : (a b : ℕ) → 2 ^ a ≤ 2 ^ b → a ≤ b

@@ -1,7 +1,7 @@
 -- What each function of the module `root` needs.
 use Rattle.std.proofs.Common.{◌≡◌, ℕ, zero, suc, ◌+◌, ◌-◌, ◌*◌, ◌/◌, ◌%◌, ◌^◌, ◌<◌, ◌≤◌, true, false, not, T, sym, refl, ap, ◌∙◌, subst, true≢false, le_trans, le_of_eq, lt_of_lt_of_le, lt_of_le_of_lt, le_of_lt, mul-le-mul_right, mul_assoc, mul_comm, div-lt_iff_lt-mul, lt_of_mul-lt-mul_right, mul-lt-mul_of_pos_right, mul-pos, mul_right_comm, mul-div_cancel, sub-one, arith, ltb→lt, pow_pos, pow_mono, pow-add, ltb-false, ltb-true}
 use mathlib.Core.Bool.{false≢true}
-use lib.Ieee.{Float, nan, inf, fin, binary64, up, down, size, to_bits, of_bits, fits, is_nan, lt}
+use lib.Ieee.{Float, nan, inf, fin, binary64, up, down, size, to_bits, of_bits, fits, is_nan, lt, div}
 use lib.Ieee.Digits.{size-le}
 use lib.Ieee.Exact.{HasValue}
 use lib.Ieee.Fits.{down_pos, kept-lt}
@@ -9,7 +9,7 @@ use lib.Ieee.Bits.{of_bits-to_bits}
 use lib.Ieee.Positive.{first_pos}
 use Rattle.numbers.specs.Root.{Rooted, Digit, Padded}
 use Rattle.numbers.specs.Sqrt.{root_float, sqrt_of}
-use Rattle.numbers.proofs.Reals.{Zero, Nought, fits_under, not_zero}
+use Rattle.numbers.proofs.Reals.{Zero, Nought, nought_by_nought, fits_under, not_zero}
 use Rattle.numbers.proofs.root.Whole.{pow_lt_back, square_lt-back, square_next, four-pow, four_pos, four_next}
 use Rattle.numbers.proofs.root.Near.{root_down, root_up}
 use Rattle.numbers.proofs.root.Pattern.{made, decoded, digits_of, shift_of}
@@ -210,20 +210,24 @@ endless (inf true) p t = absurd p
 endless (inf false) p t = refl
 endless (fin s m e) p t = absurd (true≢false t)
 
-pub under : (x : Float) → lt x Nought ≡ true → of_bits binary64 0x7ff8_0000_0000_0000 ≡ sqrt_of x
+-- below zero the root is the NaN that the code writes, which is 0 / 0
+pub nan_under : (x : Float) → lt x Nought ≡ true → of_bits binary64 0x7ff8_0000_0000_0000 ≡ sqrt_of x
 unfolding lt of_bits sqrt_of
-under nan t = refl
-under (inf true) t = refl
-under (inf false) t = absurd (false≢true t)
-under (fin true zero e) t = let h : 0 < 0 * up e * 1 + 0 * down e = ltb-true 0 (0 * up e * 1 + 0 * down e) t in absurd (no h)
+nan_under nan t = refl
+nan_under (inf true) t = refl
+nan_under (inf false) t = absurd (false≢true t)
+nan_under (fin true zero e) t = let h : 0 < 0 * up e * 1 + 0 * down e = ltb-true 0 (0 * up e * 1 + 0 * down e) t in absurd (no h)
   where
     no : 0 < 0 * up e * 1 + 0 * down e → ⊥
     no h = omega arith
-under (fin true (suc m) e) t = refl
-under (fin false m e) t = absurd (no (ltb-true (m * up e * 1) (0 * down e) t))
+nan_under (fin true (suc m) e) t = refl
+nan_under (fin false m e) t = absurd (no (ltb-true (m * up e * 1) (0 * down e) t))
   where
     no : m * up e * 1 < 0 * down e → ⊥
     no h = omega arith
+
+pub under : (x : Float) → lt x Nought ≡ true → div binary64 Nought Nought ≡ sqrt_of x
+under x t = nought_by_nought ∙ nan_under x t
 
 pub still : (x : Float) → lt Nought x ≡ false → lt x Nought ≡ false → x ≡ sqrt_of x
 unfolding lt of_bits sqrt_of
