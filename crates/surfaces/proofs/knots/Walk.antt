@@ -1,5 +1,5 @@
 -- The divisions that are kept, one after the other, and the rungs counted and written by them, on plain values.
-use Rattle.std.proofs.Common.{◌≡◌, ℕ, suc, ◌+◌, ◌-◌, ◌<◌, ◌≤◌, max, Bool, true, false, cond, leb, List, [], ◌∷◌, ◌++◌, length, drop, set, sym, refl, ap, ◌∙◌, add-one, arith, set-set, leb-false, leb-true}
+use Rattle.std.proofs.Common.{◌≡◌, ℕ, suc, ◌+◌, ◌-◌, ◌<◌, ◌≤◌, max, Bool, true, false, cond, leb, List, [], ◌∷◌, ◌++◌, length, drop, set, sym, refl, ap, ◌∙◌, add-one, arith, length-set, set-set, leb-false, leb-true}
 use mathlib.Core.List.{drop_last}
 use lib.Seq.{sets, drop-nil}
 use lib.Ieee.{Float, ne}
@@ -13,6 +13,20 @@ use Rattle.surfaces.proofs.knots.Rungs.{from-length, kept_are, rungs-kept, rungs
 unfoldable pub writes : ℕ → ℕ → List Float → List Float → List Float
 writes from k [] os = os
 writes from k (x ∷ xs) os = writes from (suc k) xs (placed from k x os)
+
+-- storing one, and storing several, keeps the length
+place-length : (from k : ℕ) (x : Float) (os : List Float) → length (placed from k x os) ≡ length os
+unfolding placed
+place-length from k x os = go (leb from k)
+  where
+    go : (b : Bool) → length (cond b (set os (k - from) x) os) ≡ length os
+    go true = length-set os (k - from) x
+    go false = refl
+
+writes-length : (from k : ℕ) (xs os : List Float) → length (writes from k xs os) ≡ length os
+unfolding writes
+writes-length from k [] os = refl
+writes-length from k (x ∷ xs) os = writes-length from (suc k) xs (placed from k x os) ∙ place-length from k x os
 
 writes_is : (from k : ℕ) (xs os : List Float) → writes from k xs os ≡ sets os (k - from) (drop (from - k) xs)
 unfolding writes placed
@@ -146,6 +160,10 @@ module _ (lo hi : Float) (n : ℕ) where
     writing_start e = record { counted = let l = ap length e in omega arith; is = ap (λ (l : List Float). writes from 1 l o₀) e }
 
     module _ {o rest : List Float} {k : ℕ} (w : Writing o k rest) where
+      -- the slice keeps its length
+      pub writing-long : length o ≡ length o₀
+      writing-long = sym (writes-length from (suc k) rest o) ∙ ap length w.is ∙ writes-length from 1 others o₀
+
       module _ {x : Float} {behind : List Float} (e : rest ≡ x ∷ behind) where
         pub writing_few : k < n
         writing_few = let l = ap length e in let q = w.counted in let m = others-few in omega arith
