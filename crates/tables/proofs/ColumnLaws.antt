@@ -100,25 +100,35 @@ module _ (u v x y z : List Float) (t₀ : List Held) (n : ℕ) where
     pub putting_none : length t₀ < n → rows t₀ ≡ placed 0 all (rows t₀)
     putting_none h = let l = length-corners u v x y z in let m = length-rows t₀ in sym (placed_short 0 all (rows t₀) (omega arith))
 
+  -- the table keeps its length
+  pub putting-long : (t : List Held) (i : ℕ) → Putting t i → length t ≡ length t₀
+  putting-long t i k = sym (length-rows t) ∙ k.fill.long ∙ length-rows t₀
+
+  -- of any table whose rows are those of t with corner i of the five columns stored at i
+  pub putting_turn : (t t' : List Held) (i : ℕ) → Putting t i → i < n
+      → rows t' ≡ set (rows t) i (record { u = get_or u i nan; v = get_or v i nan; at = record { x = get_or x i nan; y = get_or y i nan; z = get_or z i nan } })
+      → Putting t' (i + 1)
+  putting_turn t t' i k h e = record {
+    short_u = k.short_u;
+    short_v = k.short_v;
+    short_x = k.short_x;
+    short_y = k.short_y;
+    short_z = k.short_z;
+    count = k.count;
+    fill = rw e (front_turn all (rows t₀) (rows t) i (record { u = get_or u i nan; v = get_or v i nan; at = record { x = get_or x i nan; y = get_or y i nan; z = get_or z i nan } }) none k.fill (omega (arith, k.count))
+        (sym (corner_here u v x y z i (omega (arith, k.short_u)) (omega (arith, k.short_v)) (omega (arith, k.short_x)) (omega (arith, k.short_y)) (omega (arith, k.short_z)))));
+  }
+
   -- the u are gone over, the others read at the same place
   abbrev held_at : ℕ → Held
   held_at i = record { u = get_or (take n u) i nan; v = get_or v i nan; at = record { x = get_or x i nan; y = get_or y i nan; z = get_or z i nan } }
 
-  pub putting_turn : (t : List Held) (i : ℕ) → Putting t i → i < length (take n u) → Putting (set t i (held_at i)) (i + 1)
-  putting_turn t i k l =
+  -- and stored so
+  pub putting_held : (t : List Held) (i : ℕ) → Putting t i → i < length (take n u) → Putting (set t i (held_at i)) (i + 1)
+  putting_held t i k l =
       let h : i < n = omega (arith, length-take-le n u k.short_u) in
-      let here : corner_of (held_at i) ≡ get_or all i none =
-      ap (λ (a : Float). record { u = a; v = get_or v i nan; at = (corner_of (held_at i)).at }) (get_or-take n u i nan h)
-      ∙ sym (corner_here u v x y z i (omega (arith, k.short_u)) (omega (arith, k.short_v)) (omega (arith, k.short_x)) (omega (arith, k.short_y)) (omega (arith, k.short_z))) in
-      record {
-        short_u = k.short_u;
-        short_v = k.short_v;
-        short_x = k.short_x;
-        short_y = k.short_y;
-        short_z = k.short_z;
-        count = k.count;
-        fill = rw (rows-set t i (held_at i)) (front_turn all (rows t₀) (rows t) i (corner_of (held_at i)) none k.fill (omega (arith, k.count)) here);
-      }
+      putting_turn t (set t i (held_at i)) i k h
+      (rows-set t i (held_at i) ∙ ap (λ (a : Float). set (rows t) i (record { u = a; v = get_or v i nan; at = (corner_of (held_at i)).at })) (get_or-take n u i nan h))
 
   pub putting_end : (t : List Held) (i : ℕ) → Putting t i → length (take n u) ≤ i → rows t ≡ placed 0 all (rows t₀)
   putting_end t i k h = filling_end 0 all (rows t₀) (rows t) i k.fill (omega (arith, k.count, length-take-le n u k.short_u))

@@ -25,6 +25,12 @@ pub rows-placed : (at : ℕ) (w d : List Held) → rows (placed at w d) ≡ plac
 unfolding rows
 rows-placed at w d = map-placed corner_of at w d
 
+-- a part of one table put into another: the rows of that part
+pub copied_rows : (at from to : ℕ) (src dst dst' : List Held) → dst' ≡ placed at (take (to - from) (drop from src)) dst
+    → rows dst' ≡ placed at (take (to - from) (drop from (rows src))) (rows dst)
+copied_rows at from to src dst dst' e =
+    ap rows e ∙ rows-placed at (take (to - from) (drop from src)) dst ∙ ap (λ (w : Corners Vec3). placed at w (rows dst)) (rows_part from to src)
+
 -- ---- so many rows from a row on
 
 pub rows_of_part : (from n : ℕ) (t : List Held) → rows (part_of from n t) ≡ take n (drop from (rows t))

@@ -1,5 +1,5 @@
 use Rattle.std.proofs.Common.{arith}
-use Rattle.tables.proofs.ColumnLaws.{putting, putting_turn, putting_end, putting_none}
+use Rattle.tables.proofs.ColumnLaws.{putting, putting_held, putting_end, putting_none}
 use Rattle.tables.proofs.columns.rows_from.Goals as goal
 
 pub returns-then-t-n : goal.returns-then-t-n
@@ -9,7 +9,7 @@ pub loop-i-init : goal.loop-i-init
 loop-i-init c = putting _ _ _ _ _ _ _ (omega arith) (omega arith)
 
 pub loop-i-preserved : goal.loop-i-preserved
-loop-i-preserved c = putting_turn _ _ _ _ _ _ _ _ _ c.loop-i.invariant c.loop-i-test.true
+loop-i-preserved c = putting_held _ _ _ _ _ _ _ _ _ c.loop-i.invariant c.loop-i-test.true
 
 pub returns : goal.returns
 returns c = putting_end _ _ _ _ _ _ _ _ _ c.loop-i.invariant c.loop-i-test.false
