@@ -9,10 +9,12 @@ use lib.Ieee.{Float, nan}
 use Rattle.lists.proofs.Filling as lists
 use Rattle.records.specs.Bytes.{u16_at, real_at, uv_at, xyz_at}
 use Rattle.numbers.specs.declared.math.Vec2.{Vec2}
-use Rattle.tables.specs.Rows.{rows, corner_of, none}
+use Rattle.numbers.specs.declared.math.Vec3.{Vec3}
+use Rattle.tables.specs.Corners.{Corner}
+use Rattle.tables.specs.Rows.{rows, none}
 use Rattle.tables.specs.declared.corners.Corner.{Corner as Held}
 use Rattle.tables.proofs.CornersFrom.{length_from, corner-from}
-use Rattle.tables.proofs.Rows.{rows-set}
+use Rattle.tables.proofs.Rows.{length-rows}
 use Rattle.records.specs.Face.{header_size, head_reals, loops, count, counts, head, points, real_place, parameters, positions, u_of, v_of, corners_in, corner_at}
 use Rattle.records.specs.Lent.{front, CornersRoom}
 use Rattle.records.proofs.Rows.{length-row_at, get_or-row_at}
@@ -136,18 +138,19 @@ module _ {s : List ℕ} {n p q : ℕ} {t₀ : List Held} where
       record { room = w; p_is = e; q_is = f; long = refl; filling = filling_start (omega arith) }
 
   module _ {t : List Held} {i : ℕ} (r : Reading s n p q t₀ t i) where
-    pub reading_turn : {c : Held} → i < n → corner_of c ≡ corner_at s (p + 16 * i) (q + 24 * i) → Reading s n p q t₀ (set t i c) (i + 1)
-    reading_turn {c} h e =
+    -- of any table whose rows are those of t with c stored at i
+    pub reading_turn : {t' : List Held} {c : Corner Vec3} → i < n → c ≡ corner_at s (p + 16 * i) (q + 24 * i) → rows t' ≡ set (rows t) i c → Reading s n p q t₀ t' (i + 1)
+    reading_turn {t'} {c} h e u =
         let m = r.room.many in
         let k = length-corners s in
         let at : q ≡ real_place s (head_reals + 2 * points s) = let a = r.p_is in let b = r.q_is in omega arith in
-        let is : corner_of c ≡ get_or (corners_in s) i none = e ∙ (λ j. corner_at s (r.p_is j + 16 * i) (at j + 24 * i)) ∙ sym (corner_is s i (omega arith)) in
+        let is : c ≡ get_or (corners_in s) i none = e ∙ (λ j. corner_at s (r.p_is j + 16 * i) (at j + 24 * i)) ∙ sym (corner_is s i (omega arith)) in
         record {
           room = r.room;
           p_is = r.p_is;
           q_is = r.q_is;
-          long = length-set t i c ∙ r.long;
-          filling = rw (rows-set t i c) (filling_turn r.filling none (omega arith) is);
+          long = sym (length-rows t') ∙ ap length u ∙ length-set (rows t) i c ∙ length-rows t ∙ r.long;
+          filling = rw u (filling_turn r.filling none (omega arith) is);
         }
 
     pub reading_end : n ≤ i → rows t ≡ front (corners_in s) (rows t₀)
