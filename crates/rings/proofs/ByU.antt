@@ -88,6 +88,10 @@ module _ (period cut : Float) where
   pub later_bare : (u : List Float) → us (later_for period cut (bare u)) ≡ later_by (λ u. u) moved_by period cut u
   later_bare u = us_later (bare u) ∙ ap (later_by (λ u. u) moved_by period cut) (us-bare u)
 
+  -- the u put by themselves are those of the ring put
+  pub later_by_u : {A : Type 0} (r : Corners A) → us (later_for period cut (bare (us r))) ≡ us (later_for period cut r)
+  later_by_u r = later_bare (us r) ∙ sym (us_later r)
+
   pub length-later_for : {A : Type 0} (r : Corners A) → length (later_for period cut r) ≡ length r
   unfolding slide_to_cut align_cuts
   length-later_for r =

@@ -1,7 +1,7 @@
 -- A ring turned in place: turned left, a step for what comes round, and the closing point.
 use Prim.Native.Nat.{ℕ, ◌+◌, ◌-◌, ◌≤◌, ◌<◌, min}
 use mathlib.Core.Path.{◌≡◌, refl, sym, ap, ◌∙◌}
-use mathlib.Core.List.{List, [], ◌∷◌, ◌++◌, map, append-nil, drop_last}
+use mathlib.Core.List.{List, [], ◌∷◌, ◌++◌, map, append-nil, drop_last, map-id}
 use mathlib.Core.Bool.{Bool, true, false, cond, ◌||◌}
 use native.Mathlib.Omega.{arith}
 use borrow.Author.Tests.{lt-ltb, le-ltb, ne_eqb, eqb-false}
@@ -9,7 +9,7 @@ use lib.Dec.{ltb, eqb}
 use lib.ListN.{length, get_or, set, take, drop, length-drop, length-map, length-append, drop_of_length-le}
 use lib.Seq.{set_at, take_at, drop_at, take_all, length-take-le}
 use Rattle.lists.proofs.Pieces.{take-most, drop-most}
-use Rattle.loops.specs.Rings.{begun, closed, turned}
+use Rattle.loops.specs.Rings.{begun, closed, turned, unchanged}
 use Rattle.rings.specs.Turns.{turned_unless, recut_at, turned_onto, align_at}
 use Rattle.lists.proofs.Elements.{length-drop_last, drop_last-take}
 use Rattle.rings.proofs.Lengths.{length-begun}
@@ -115,6 +115,11 @@ module _ {A : Type 0} (f g : A → A) (k : ℕ) (a : List A) (some : 2 ≤ lengt
 -- ---- the guards of `begin_ring_at`, `align_cuts` and the moves
 
 module _ {A : Type 0} (f : A → A) (k : ℕ) (a : List A) where
+  -- put on no branch
+  pub turned_on : turned_onto f unchanged k a ≡ turned f k a
+  unfolding turned_onto turned
+  turned_on = ap (closed f) (map-id (begun f k (drop_last a)))
+
   module _ (few : ℕ) where
     pub stays_at : k ≡ 0 → a ≡ turned_unless few f k a
     unfolding turned_unless
@@ -128,9 +133,14 @@ module _ {A : Type 0} (f : A → A) (k : ℕ) (a : List A) where
         either true = refl
         either false = refl
 
-    pub turned_else : (a' : List A) → (k ≡ 0 → ⊥) → few ≤ length a → a' ≡ turned f k a → a' ≡ turned_unless few f k a
+    -- a turn that neither guard stops
+    pub turned_past_guards : (a' : List A) → (k ≡ 0 → ⊥) → few ≤ length a → a' ≡ turned f k a → a' ≡ turned_unless few f k a
     unfolding turned_unless
-    turned_else a' n h e = e ∙ sym (rw (ne_eqb k 0 n, le-ltb (length a) few h))
+    turned_past_guards a' n h e = e ∙ sym (rw (ne_eqb k 0 n, le-ltb (length a) few h))
+
+    -- and one put on no branch
+    pub turned_else : (a' : List A) → (k ≡ 0 → ⊥) → few ≤ length a → a' ≡ turned_onto f unchanged k a → a' ≡ turned_unless few f k a
+    turned_else a' n h e = turned_past_guards a' n h (e ∙ turned_on)
 
   -- past its first open point a ring has two points and more
   pub recut_open : k ≤ length a - 2 → cond (eqb k 0) a (turned f k a) ≡ recut_at f k a
