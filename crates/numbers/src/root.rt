@@ -103,7 +103,7 @@ fn positive(x: f64) -> f64
     }
 }
 
-#[tactic(auto, using(crate::proofs::root::Laws::below_endless, crate::proofs::root::Laws::endless, crate::proofs::root::Laws::under, crate::proofs::root::Laws::still, crate::proofs::Reals::above))]
+#[tactic(auto, using(crate::proofs::root::Laws::below_endless, crate::proofs::root::Laws::endless, crate::proofs::root::Laws::nan_under, crate::proofs::root::Laws::still, crate::proofs::Reals::above))]
 pub fn sqrt(x: f64) -> f64
     ensures { result ≡ sqrt_of x }
 {
