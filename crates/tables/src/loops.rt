@@ -8,15 +8,16 @@ use super::corners::Corner;
 use super::table_row::TableRow;
 
 // A count for each loop; where they run past the end of the table, a loop is what is left. As an
-// iterator it gives its loops, one after the other.
+// iterator it gives its loops, one after the other; a loop that it gave keeps the table lent, and not the
+// counts.
 #[derive(Clone, Copy)]
-pub struct Loops<'a, R: TableRow = Corner> {
+pub struct Loops<'a, 'c, R: TableRow = Corner> {
     pub corners: &'a [R],
-    pub counts: &'a [usize],
+    pub counts: &'c [usize],
 }
 
 // Loop k; past the last one, nothing, and without a walk over the loops.
-pub fn loop_of<'a>(loops: Loops<'a>, k: usize) -> &'a [Corner]
+pub fn loop_of<'a>(loops: Loops<'a, '_>, k: usize) -> &'a [Corner]
     ensures { rows result.now ≡ get_or (loops_in loops.entry) k [] }
 {
     if loops.counts.len() <= k {
@@ -30,7 +31,7 @@ pub fn loop_of<'a>(loops: Loops<'a>, k: usize) -> &'a [Corner]
     &[]
 }
 
-impl<'a, R: TableRow> Iterator for Loops<'a, R> {
+impl<'a, 'c, R: TableRow> Iterator for Loops<'a, 'c, R> {
     type Item = &'a [R];
 
     ghost next_gives = { YieldsFirstBy (λ one. R.rows_of one.now) (loops_by R.rows_of) };
